@@ -1,0 +1,39 @@
+// The calls of an object in memory that are to fail.
+ghost use Rattle.std.specs.Prelude.{◌≡◌, ◌≤◌, OnOk, OnErr, IfErr, IsErrOf};
+ghost use Rattle.skopeo_outside.specs.Outside.{HasCause};
+
+use crate::stop::Stop;
+
+/// Which calls fail: those whose numbers, from 1, stand in a list.
+#[derive(Drop)]
+pub struct Failures {
+    pub calls: u64,
+    failing: Vec<u64>,
+    pub count: u64,
+}
+
+impl Failures {
+    pub fn new(failing: Vec<u64>) -> Self
+        ensures { result.count ≡ 0 }
+    {
+        Failures {
+            calls: 0,
+            failing,
+            count: 0,
+        }
+    }
+
+    /// Counts a call, which fails where its number stands in the list.
+    pub fn next(&mut self) -> Result<(), Stop>
+        ensures cause { HasCause self.old.count self.new.count result }
+        ensures ok { OnOk result (self.new.count ≡ self.old.count) }
+        ensures fault { IfErr result (λ stop. stop ≡ Stop.Fault) }
+    {
+        self.calls = self.calls.saturating_add(1);
+        if self.failing.contains(&self.calls) {
+            self.count = self.count.saturating_add(1);
+            return Err(Stop::Fault);
+        }
+        Ok(())
+    }
+}

@@ -1,0 +1,97 @@
+// A wire and helper on which every call fails, and a wire round a wire.
+ghost use Rattle.std.specs.Prelude.{◌≡◌, None, false};
+
+use crate::helper::Helper;
+use crate::lists::Many;
+use crate::stop::Stop;
+use crate::wire::Wire;
+
+/// A wire and helper that tells nothing and on which every call fails.
+#[derive(Drop)]
+pub struct Idle {
+    pub count: u64,
+}
+
+impl Wire for Idle {
+    ghost conversations = { λ _. None };
+
+    ghost is_open = { λ _. false };
+
+    ghost faults = { λ w. w.count };
+
+    fn connect(&mut self, _host: &str, _port: u16) -> Result<(), Stop> {
+        self.count = self.count.saturating_add(1);
+        Err(Stop::Fault)
+    }
+
+    fn send(&mut self, _bytes: &[u8]) -> Result<(), Stop> {
+        self.count = self.count.saturating_add(1);
+        Err(Stop::Fault)
+    }
+
+    fn recv(&mut self, _into: &mut [u8]) -> Result<usize, Stop> {
+        self.count = self.count.saturating_add(1);
+        Err(Stop::Fault)
+    }
+
+    fn close(&mut self) {}
+
+    fn faults(&self) -> u64 {
+        self.count
+    }
+}
+
+impl Helper for Idle {
+    ghost runs = { λ _. None };
+
+    ghost faults = { λ w. w.count };
+
+    fn run(
+        &mut self,
+        _program: &str,
+        _input: &[u8],
+        _limit: usize,
+        _answer: &mut Many<u8>,
+    ) -> Result<i32, Stop> {
+        self.count = self.count.saturating_add(1);
+        Err(Stop::Fault)
+    }
+
+    fn faults(&self) -> u64 {
+        self.count
+    }
+}
+
+/// A wire that passes each call on to another.
+#[derive(Drop)]
+pub struct Passing<W: Wire + Drop> {
+    pub inner: W,
+}
+
+impl<W: Wire + Drop> Wire for Passing<W> {
+    ghost conversations = { λ p. W.conversations p.inner };
+
+    ghost is_open = { λ p. W.is_open p.inner };
+
+    ghost faults = { λ p. W.faults p.inner };
+
+    fn connect(&mut self, host: &str, port: u16) -> Result<(), Stop> {
+        self.inner.connect(host, port)
+    }
+
+    fn send(&mut self, bytes: &[u8]) -> Result<(), Stop> {
+        self.inner.send(bytes)
+    }
+
+    fn recv(&mut self, into: &mut [u8]) -> Result<usize, Stop> {
+        self.inner.recv(into)
+    }
+
+    fn close(&mut self) {
+        self.inner.close();
+    }
+
+    fn faults(&self) -> u64 {
+        self.inner.faults()
+    }
+}

@@ -1,0 +1,196 @@
+// A wire in memory, whose other end is a value.
+ghost use Rattle.skopeo_outside.specs.declared.line.Talk.{Talk};
+ghost use Rattle.std.specs.Prelude.{List, ◌≡◌, ◌==◌, ◌&&◌, ◌≤◌, ◌++◌, ◌<◌, Some, is_some, length, IfOk, OnErr, OnOk, IsTrue, IsErrOf};
+ghost use Rattle.skopeo_outside.specs.Wire.{begun, on_last, with_sent, with_received};
+ghost use Rattle.skopeo_outside.specs.Talks.{all_kept, kept, kept_last};
+
+use crate::lists::Many;
+use crate::stop::{Memory, Stop};
+use crate::wire::Wire;
+use std::alloc::Global;
+
+/// The other end of a wire in memory.
+pub trait Peer {
+    /// Adds the answer to what was sent so far on this connection.
+    fn answer(
+        &mut self,
+        host: &str,
+        port: u16,
+        sent: &[u8],
+        into: &mut Many<u8>,
+    ) -> Result<(), Memory>;
+}
+
+/// A conversation as it is kept.
+#[derive(Drop)]
+struct Talk {
+    host: String,
+    port: u16,
+    sent: Vec<u8>,
+    received: Vec<u8>,
+    ended: bool,
+}
+
+impl Talk {
+    fn new(alloc: Global, host: &str, port: u16) -> Result<Talk, Stop>
+        ensures begun { IfOk result (λ talk. kept talk ≡ begun host.now port) }
+        ensures err { OnErr result (IsErrOf result Stop.Memory) }
+    {
+        Ok(Talk {
+            host: String::from_str(alloc, host)?,
+            port,
+            sent: Vec::new(alloc),
+            received: Vec::new(alloc),
+            ended: false,
+        })
+    }
+}
+
+/// Notes bytes that are sent.
+fn note_sent(last: &mut Option<Talk>, bytes: &[u8]) -> Result<(), Stop>
+    requires { IsTrue (is_some last.old) }
+    ensures some { IsTrue (is_some last.new) }
+    ensures ok { OnOk result ((past : List Talk) → all_kept past last.new ≡ on_last (with_sent bytes.now) (all_kept past last.old)) }
+    ensures err { OnErr result ((past : List Talk) → all_kept past last.new ≡ all_kept past last.old) }
+    ensures memory { OnErr result (IsErrOf result Stop.Memory) }
+{
+    if let Some(talk) = last {
+        talk.sent.extend_from_slice(bytes)?;
+    }
+    Ok(())
+}
+
+/// Notes what one call of recv gives.
+fn note_received(last: &mut Option<Talk>, piece: &[u8]) -> Result<(), Stop>
+    requires { IsTrue (is_some last.old) }
+    ensures some { IsTrue (is_some last.new) }
+    ensures ok { OnOk result ((past : List Talk) → all_kept past last.new ≡ on_last (with_received piece.now (length piece.now == 0)) (all_kept past last.old)) }
+    ensures err { OnErr result ((past : List Talk) → all_kept past last.new ≡ all_kept past last.old) }
+    ensures memory { OnErr result (IsErrOf result Stop.Memory) }
+{
+    if let Some(talk) = last {
+        if piece.is_empty() {
+            talk.ended = true;
+        } else {
+            talk.received.extend_from_slice(piece)?;
+        }
+    }
+    Ok(())
+}
+
+/// Makes the last conversation a past one, and a new one the last.
+fn go_on(past: &mut Vec<Talk>, last: &mut Option<Talk>, next: Talk) -> Result<(), Stop>
+    ensures ok { OnOk result (all_kept past.new.items last.new ≡ all_kept past.old.items last.old ++ kept_last (Some next)) }
+    ensures some { OnOk result (IsTrue (is_some last.new)) }
+    ensures err { OnErr result ((all_kept past.new.items last.new ≡ all_kept past.old.items last.old) × (IsErrOf result Stop.Memory)) }
+{
+    past.reserve(1)?;
+    if let Some(talk) = last.take() {
+        past.push(talk)?;
+    }
+    *last = Some(next);
+    Ok(())
+}
+
+/// A wire in memory that never fails. It asks its peer at the first `recv` after a `send`, and gives the answer in pieces.
+#[derive(Drop)]
+pub struct SureWire<P: Peer + Drop> {
+    alloc: Global,
+    peer: P,
+    past: Vec<Talk>,
+    last: Option<Talk>,
+    open: bool,
+    answer: Many<u8>,
+    given: usize,
+    asked: bool,
+    piece: usize,
+}
+
+impl<P: Peer + Drop> SureWire<P> {
+    /// A wire to the peer, which gives at most `piece` bytes at a time.
+    pub fn new(alloc: Global, peer: P, piece: usize) -> Self {
+        SureWire {
+            alloc,
+            peer,
+            past: Vec::new(alloc),
+            last: None,
+            open: false,
+            answer: Many::new(alloc),
+            given: 0,
+            asked: true,
+            piece,
+        }
+    }
+
+    /// The other end.
+    pub fn peer(&self) -> &P {
+        &self.peer
+    }
+
+    /// Asks the peer, unless nothing was sent since it was asked last.
+    fn ask(&mut self) -> Result<(), Stop>
+        ensures last { self.new.last ≡ self.old.last }
+        ensures past { self.new.past ≡ self.old.past }
+        ensures open { self.new.open ≡ self.old.open }
+        ensures given { OnOk result (self.new.given ≤ length self.new.answer) }
+        ensures err { OnErr result (IsErrOf result Stop.Memory) }
+    {
+        if let Some(talk) = &self.last {
+            if !self.asked {
+                let mut answer = Many::new(self.alloc);
+                self.peer
+                    .answer(&talk.host, talk.port, &talk.sent, &mut answer)?;
+                self.answer = answer;
+                self.given = 0;
+                self.asked = true;
+            }
+        }
+        if self.given > self.answer.len() {
+            self.given = self.answer.len();
+        }
+        Ok(())
+    }
+}
+
+impl<P: Peer + Drop> Wire for SureWire<P> {
+    ghost conversations = { λ w. Some (all_kept w.past.items w.last) };
+
+    ghost is_open = { λ w. w.open && is_some w.last };
+
+    ghost faults = { λ _. 0 };
+
+    fn connect(&mut self, host: &str, port: u16) -> Result<(), Stop> {
+        self.open = false;
+        let talk = Talk::new(self.alloc, host, port)?;
+        go_on(&mut self.past, &mut self.last, talk)?;
+        self.open = true;
+        self.asked = true;
+        self.answer.clear();
+        self.given = 0;
+        Ok(())
+    }
+
+    fn send(&mut self, bytes: &[u8]) -> Result<(), Stop> {
+        note_sent(&mut self.last, bytes)?;
+        self.asked = false;
+        Ok(())
+    }
+
+    fn recv(&mut self, into: &mut [u8]) -> Result<usize, Stop> {
+        self.ask()?;
+        let left = self.answer.len() - self.given;
+        let count = left.min(into.len()).min(self.piece);
+        into[..count].copy_from_slice(&self.answer.as_slice()[self.given..self.given + count]);
+        note_received(&mut self.last, &into[..count])?;
+        self.given += count;
+        Ok(count)
+    }
+
+    fn close(&mut self) {
+        self.open = false;
+    }
+
+    fn faults(&self) -> u64 {
+        0
+    }
+}
