@@ -9,13 +9,25 @@ use crate::wire::Wire;
 /// A wire and helper that tells nothing and on which every call fails.
 #[derive(Drop)]
 pub struct Idle {
-    pub count: u64,
+    count: u64,
+    connected: bool,
+}
+
+impl Idle {
+    pub fn new() -> Self
+        ensures { result.count ≡ 0 }
+    {
+        Idle {
+            count: 0,
+            connected: false,
+        }
+    }
 }
 
 impl Wire for Idle {
     ghost conversations = { λ _. None };
 
-    ghost is_open = { λ _. false };
+    ghost is_open = { λ w. w.connected };
 
     ghost faults = { λ w. w.count };
 
@@ -34,7 +46,9 @@ impl Wire for Idle {
         Err(Stop::Fault)
     }
 
-    fn close(&mut self) {}
+    fn close(&mut self) {
+        self.connected = false;
+    }
 
     fn faults(&self) -> u64 {
         self.count

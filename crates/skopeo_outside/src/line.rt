@@ -99,7 +99,7 @@ pub struct SureWire<P: Peer + Drop> {
     peer: P,
     past: Vec<Talk>,
     last: Option<Talk>,
-    open: bool,
+    connected: bool,
     answer: Many<u8>,
     given: usize,
     asked: bool,
@@ -114,7 +114,7 @@ impl<P: Peer + Drop> SureWire<P> {
             peer,
             past: Vec::new(alloc),
             last: None,
-            open: false,
+            connected: false,
             answer: Many::new(alloc),
             given: 0,
             asked: true,
@@ -131,7 +131,7 @@ impl<P: Peer + Drop> SureWire<P> {
     fn ask(&mut self) -> Result<(), Stop>
         ensures last { self.new.last ≡ self.old.last }
         ensures past { self.new.past ≡ self.old.past }
-        ensures open { self.new.open ≡ self.old.open }
+        ensures connected { self.new.connected ≡ self.old.connected }
         ensures given { OnOk result (self.new.given ≤ length self.new.answer) }
         ensures err { OnErr result (IsErrOf result Stop.Memory) }
     {
@@ -155,15 +155,15 @@ impl<P: Peer + Drop> SureWire<P> {
 impl<P: Peer + Drop> Wire for SureWire<P> {
     ghost conversations = { λ w. Some (all_kept w.past.items w.last) };
 
-    ghost is_open = { λ w. w.open && is_some w.last };
+    ghost is_open = { λ w. w.connected && is_some w.last };
 
     ghost faults = { λ _. 0 };
 
     fn connect(&mut self, host: &str, port: u16) -> Result<(), Stop> {
-        self.open = false;
+        self.connected = false;
         let talk = Talk::new(self.alloc, host, port)?;
         go_on(&mut self.past, &mut self.last, talk)?;
-        self.open = true;
+        self.connected = true;
         self.asked = true;
         self.answer.clear();
         self.given = 0;
@@ -187,7 +187,7 @@ impl<P: Peer + Drop> Wire for SureWire<P> {
     }
 
     fn close(&mut self) {
-        self.open = false;
+        self.connected = false;
     }
 
     fn faults(&self) -> u64 {

@@ -35,7 +35,7 @@ impl<P: Peer + Drop> MemWire<P> {
 impl<P: Peer + Drop> Wire for MemWire<P> {
     ghost conversations = { λ w. Some (all_kept w.line.past.items w.line.last) };
 
-    ghost is_open = { λ w. w.line.open && is_some w.line.last };
+    ghost is_open = { λ w. w.line.connected && is_some w.line.last };
 
     ghost faults = { λ w. w.failures.count };
 

@@ -1,13 +1,6 @@
 // Words that more than one layer uses.
 use crate::lists::{Many, Text};
 
-/// A name and its value.
-#[derive(Debug, Drop)]
-pub struct Pair {
-    pub name: Text,
-    pub value: Text,
-}
-
 /// The bytes of a manifest, with the content type that came with them, or the empty text.
 #[derive(Debug, Drop)]
 pub struct Fetched {

@@ -1,0 +1,175 @@
+-- From what was admitted and written to the copy theorem.
+use Rattle.std.proofs.Common.{◌≡◌, ◌≢◌, List, [], ℕ, All, Bool, true, false, length, nat_le, cond, Option, Some, None, Result, Ok, Err, refl, sym, ap, subst, ◌∙◌, ◌⊎◌, inl, inr}
+use Rattle.skopeo_outside.specs.Tree.{Tree, file_at}
+use Rattle.skopeo_outside.specs.Outside.{Told}
+use Rattle.skopeo_outside.proofs.Trees.{path_cases}
+use Rattle.json_tree.specs.Tree.{tree}
+use Rattle.json_tree.specs.Checked.{Checked}
+use Rattle.manifest_v2s2.specs.declared.image.Image.{Image}
+use Rattle.manifest_v2s2.specs.declared.kind.Kind.TheVariants.{V2s2}
+use Rattle.manifest_v2s2.specs.Image.{image_of}
+use Rattle.digest_reader.specs.declared.job.Job.{Job}
+use Rattle.layouts.specs.Paths.{first_signature, manifest_path, IsManifestPath, IsIn}
+use Rattle.layouts.specs.Bounds.{bounded, bounded_by, limit}
+use Rattle.layouts.specs.Occupied.{is_occupied}
+use Rattle.layouts.specs.Trees.{OnlyBlobs, SameOrGone}
+use Rattle.layouts.proofs.NameLemmas.{version_not_manifest, blob_not_manifest}
+use Rattle.layouts.proofs.FolderLemmas.{no_change_in}
+use Rattle.layouts.proofs.OccupiedLemmas.{nothing_in, in_cases}
+use Rattle.copy_engine.specs.declared.gate.Requirement.{Requirement}
+use Rattle.copy_engine.specs.declared.plan.CopyPlan.{CopyPlan}
+use Rattle.copy_engine.specs.declared.admit.Admitted.{Admitted}
+use Rattle.copy_engine.specs.declared.refusal.Refusal.{Refusal}
+use Rattle.copy_engine.specs.Outcome.{◌>>=◌, Answers}
+use Rattle.copy_engine.specs.Gate.{Holds, judged}
+use Rattle.copy_engine.specs.Source.{manifest_in, manifest_at, or_refused, image_in}
+use Rattle.manifest_convert.specs.Blobs.{blobs}
+use Rattle.copy_engine.specs.Blobs.{IsSecured}
+use Rattle.copy_engine.specs.Carried.{Each, IsCopyOf}
+use Rattle.copy_engine.specs.Delivered.{IsWritten, IsDelivered}
+use Rattle.copy_engine.specs.Headline.{IsWrite, ImageHeadline}
+use Rattle.copy_engine.specs.ImageEnd.{admitted, vacant, vacant_at}
+use Rattle.copy_engine.proofs.GateLemmas.{judged_holds}
+
+pub bounded_is : (most : ℕ) (file : Option (List ℕ)) (bytes : List ℕ) → bounded_by most file ≡ Some bytes → file ≡ Some bytes
+bounded_is most None bytes e = let x : None ≡ Some bytes = e in cc
+bounded_is most (Some all) bytes e = by (nat_le (length all) most) refl
+  where
+    by : (b : Bool) → nat_le (length all) most ≡ b → Some all ≡ Some bytes
+    by true n = sym (ap (λ b. cond b (Some all) None) n) ∙ e
+    by false n = let x : None ≡ Some bytes = sym (ap (λ b. cond b (Some all) None) n) ∙ e in cc
+
+manifest_is : (signature file : Option (List ℕ)) (bytes : List ℕ) → manifest_in signature file ≡ Ok bytes → file ≡ Some bytes
+manifest_is None (Some all) bytes e = let x : Ok all ≡ Ok bytes = e in cc
+manifest_is None None bytes e = let x : manifest_in None None ≡ Ok bytes = e in cc
+manifest_is (Some s) None bytes e = let x : manifest_in (Some s) None ≡ Ok bytes = e in cc
+manifest_is (Some s) (Some all) bytes e = let x : manifest_in (Some s) (Some all) ≡ Ok bytes = e in cc
+
+image_is : (read : Checked Image) (image : Image) → or_refused read ≡ Ok image → read ≡ Ok image
+image_is (Ok parts) image e = let x : or_refused (Ok parts) ≡ Ok image = e in let y : parts ≡ image = cc in ap Ok y
+image_is (Err path) image e = let x : or_refused (Err path) ≡ Ok image = e in cc
+
+-- what is known of an image that was admitted
+record IsAdmitted (source : List ℕ) (list : List Requirement) (t : Tree) (image : Admitted) : Type 0 where
+  as_named : file_at t (manifest_path source) ≡ Some image.manifest
+  holds : All Holds list
+  parts : Image
+  is_image : image_of V2s2 (tree image.manifest) ≡ Ok parts
+  jobs : image.jobs ≡ blobs parts
+
+abbrev manifest_from : Result Admitted Refusal → List ℕ
+manifest_from (Ok image) = image.manifest
+manifest_from (Err refusal) = []
+
+abbrev jobs_from : Result Admitted Refusal → List Job
+jobs_from (Ok image) = image.jobs
+jobs_from (Err refusal) = []
+
+-- the walk's last steps
+gated : (source : List ℕ) (list : List Requirement) (t : Tree) (image : Admitted) (manifest : List ℕ) (parts : Image) (r : Result (Unit {0}) Refusal) → file_at t (manifest_path source) ≡ Some manifest
+    → image_of V2s2 (tree manifest) ≡ Ok parts → judged 1 list ≡ r → Answers (Ok image) (Some r >>= (λ _. Some (Ok (record { manifest = manifest; jobs = blobs parts })))) → IsAdmitted source list t image
+gated source list t image manifest parts (Ok done) there is e said =
+    let m : manifest ≡ image.manifest = ap (λ (x : Result Admitted Refusal). manifest_from x) said in
+    record {
+      as_named = there ∙ ap Some m;
+      holds = judged_holds 1 list done e;
+      parts = parts;
+      is_image = subst (λ b. image_of V2s2 (tree b) ≡ Ok parts) m is;
+      jobs = sym (ap (λ (x : Result Admitted Refusal). jobs_from x) said);
+    }
+gated source list t image manifest parts (Err refusal) there is e said = let x : Err refusal ≡ Ok image = said in cc
+
+pictured : (source : List ℕ) (list : List Requirement) (t : Tree) (image : Admitted) (manifest : List ℕ) (r : Result Image Refusal) → file_at t (manifest_path source) ≡ Some manifest → or_refused (image_of V2s2 (tree manifest)) ≡ r
+    → Answers (Ok image) (Some r >>= (λ parts. Some (judged 1 list) >>= (λ _. Some (Ok (record { manifest = manifest; jobs = blobs parts }))))) → IsAdmitted source list t image
+pictured source list t image manifest (Ok parts) there e said = gated source list t image manifest parts (judged 1 list) there (image_is (image_of V2s2 (tree manifest)) parts e) refl said
+pictured source list t image manifest (Err refusal) there e said = let x : Err refusal ≡ Ok image = said in cc
+
+sourced : (source : List ℕ) (list : List Requirement) (t : Tree) (image : Admitted) (r : Result (List ℕ) Refusal) → manifest_in (file_at t (first_signature source)) (bounded (file_at t (manifest_path source))) ≡ r
+    → Answers (Ok image) (Some r >>= (λ manifest. Some (image_in manifest) >>= (λ parts. Some (judged 1 list) >>= (λ _. Some (Ok (record { manifest = manifest; jobs = blobs parts })))))) → IsAdmitted source list t image
+unfolding image_in
+sourced source list t image (Ok manifest) e said =
+    pictured source list t image manifest (or_refused (image_of V2s2 (tree manifest))) (bounded_is limit (file_at t (manifest_path source)) manifest (manifest_is _ _ manifest e)) refl said
+sourced source list t image (Err refusal) e said = let x : Err refusal ≡ Ok image = said in cc
+
+is_admitted : (source : List ℕ) (list : List Requirement) (t : Tree) (image : Admitted) → Answers (Ok image) (admitted (Some t) source list) → IsAdmitted source list t image
+unfolding admitted manifest_at
+is_admitted source list t image said = sourced source list t image _ refl said
+
+-- ---- the copy theorem
+
+secured : (source dest : List ℕ) (a b : Tree) (job : Job) → IsCopyOf source dest a b job → IsSecured dest b job
+secured source dest a b job copy = record { bytes = _; there = copy.to; whole = copy.whole }
+
+-- a manifest that was written stands at the destination
+only_place : (source dest : List ℕ) (image : Admitted) (a b : Tree) (path bytes : List ℕ) → IsWritten source dest image a b → IsWrite a b path bytes → path ≡ manifest_path dest
+only_place source dest image a b path bytes written w = by (path_cases path (manifest_path dest))
+  where
+    never : SameOrGone a b path → ⊥
+    never (inl same) = w.changed (sym same ∙ w.stands)
+    never (inr gone) = let no : Some bytes ≡ None = sym w.stands ∙ gone in cc
+
+    by : (path ≡ manifest_path dest) ⊎ (path ≢ manifest_path dest) → path ≡ manifest_path dest
+    by (inl same) = same
+    by (inr apart) = absurd (never (written.others path (record {
+      manifest = apart;
+      version = λ e. version_not_manifest dest (subst IsManifestPath e w.manifest);
+      blob = λ k d lt e. blob_not_manifest dest _ (subst IsManifestPath e w.manifest);
+    })))
+
+-- what was admitted and then written is the copy of an image
+copied_trees : (list : List Requirement) (plan : CopyPlan) (image : Admitted) (a b : Tree) → IsAdmitted plan.source list a image → IsWritten plan.source plan.dest image a b → ImageHeadline list plan a a b
+copied_trees list plan image a b is written path bytes w =
+    let place : path ≡ manifest_path plan.dest = only_place plan.source plan.dest image a b path bytes written w in
+    let there : Some bytes ≡ Some image.manifest = sym w.stands ∙ ap (file_at b) place ∙ written.manifest in
+    record {
+      place = place;
+      manifest = image.manifest;
+      as_named = is.as_named;
+      admitted = is.holds;
+      converted = cc;
+      image = is.parts;
+      is_image = is.is_image;
+      secured = subst (λ jobs. Each (IsSecured plan.dest b) jobs (length jobs)) is.jobs (λ k d lt. secured plan.source plan.dest a b _ (written.blobs k d lt));
+    }
+
+pub copied : (list : List Requirement) (plan : CopyPlan) (image : Admitted) (x y : Option Tree) → Answers (Ok image) (admitted x plan.source list)
+    → Told (IsWritten plan.source plan.dest image) x y → Told (λ old new. ImageHeadline list plan old old new) x y
+copied list plan image None y said written = tt
+copied list plan image (Some a) None said written = written
+copied list plan image (Some a) (Some b) said written = copied_trees list plan image a b (is_admitted plan.source list a image said) written
+
+-- without a written manifest there is nothing to say
+pub none_copied : (list : List Requirement) (plan : CopyPlan) (x y : Option Tree) → Told (OnlyBlobs plan.dest) x y → Told (λ old new. ImageHeadline list plan old old new) x y
+none_copied list plan None y kept = tt
+none_copied list plan (Some a) None kept = kept
+none_copied list plan (Some a) (Some b) kept = λ path bytes w. absurd (w.changed (sym (kept.manifests path w.manifest) ∙ w.stands))
+
+pub unchanged : (dest : List ℕ) (x : Option Tree) → Told (OnlyBlobs dest) x x
+unchanged dest None = tt
+unchanged dest (Some t) = no_change_in dest t
+
+-- ---- every other file is as it was
+
+delivered_trees : (source dest : List ℕ) (image : Admitted) (a b : Tree) → is_occupied a dest ≡ false → IsWritten source dest image a b → IsDelivered source dest image a b
+delivered_trees source dest image a b empty w = record { manifest = w.manifest; version = w.version; blobs = w.blobs; others = λ q other. exact q (w.others q other); outside = w.outside }
+  where
+    inside : (q : List ℕ) → file_at b q ≡ None → IsIn dest q → file_at b q ≡ file_at a q
+    inside q gone i = gone ∙ sym (nothing_in a dest q empty i)
+
+    exact : (q : List ℕ) → SameOrGone a b q → file_at b q ≡ file_at a q
+    exact q (inl same) = same
+    exact q (inr gone) = by (in_cases dest q)
+      where
+        by : IsIn dest q ⊎ (IsIn dest q → ⊥) → file_at b q ≡ file_at a q
+        by (inl i) = inside q gone i
+        by (inr out) = w.outside.files q out
+
+vacant_is : (occupied : Bool) (done : Unit {0}) → vacant occupied ≡ Ok done → occupied ≡ false
+vacant_is false done e = refl
+vacant_is true done e = let x : vacant true ≡ Ok done = e in cc
+
+pub delivered : (source dest : List ℕ) (image : Admitted) (done : Unit {0}) (x y : Option Tree) → Answers (Ok done) (vacant_at x dest) → Told (IsWritten source dest image) x y → Told (IsDelivered source dest image) x y
+unfolding vacant_at
+delivered source dest image done None y said w = tt
+delivered source dest image done (Some a) None said w = w
+delivered source dest image done (Some a) (Some b) said w = delivered_trees source dest image a b (vacant_is (is_occupied a dest) done said) w

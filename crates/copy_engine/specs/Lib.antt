@@ -1,0 +1,9 @@
+pub mod Outcome
+pub mod Gate
+pub mod Source
+pub mod Blobs
+pub mod Carried
+pub mod Delivered
+pub mod Headline
+pub mod ImageEnd
+pub mod Calls

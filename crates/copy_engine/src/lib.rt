@@ -1,0 +1,19 @@
+//! An image is copied only where its requirements hold, with its manifest written last, over blobs that stand whole.
+#![tactic(auto)]
+
+mod admit;
+mod carry;
+mod carrying;
+mod copy;
+mod gate;
+mod plan;
+mod refusal;
+mod source;
+mod write;
+
+pub use admit::Admitted;
+pub use carrying::JobFault;
+pub use copy::copy_image;
+pub use gate::Requirement;
+pub use plan::CopyPlan;
+pub use refusal::{BlobMismatch, Cause, Part, Refusal, Why, stopped};

@@ -1,0 +1,14 @@
+pub mod Digest
+pub mod Path
+pub mod Reference
+pub mod Domain
+pub mod Component
+pub mod Characters
+pub mod Faults
+pub mod Pieces
+pub mod Place
+pub mod Calls
+pub mod Reading
+pub mod PlaceReading
+pub mod ComponentTest
+pub mod Cuts

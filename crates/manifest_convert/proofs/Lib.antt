@@ -1,0 +1,3 @@
+pub mod BlobLemmas
+pub mod SeenLemmas
+pub mod KindLemmas

@@ -1,0 +1,5 @@
+use Rattle.manifest_convert.proofs.KindLemmas.{first-kind}
+use Rattle.manifest_convert.proofs.kind.kind_of.Goals as goal
+
+pub returns-clause-first : goal.returns-clause-first
+returns-clause-first c = first-kind _ _ _ c.kind_of_bytes.ensures

@@ -1,0 +1,10 @@
+pub mod Media
+pub mod Known
+pub mod Descriptor
+pub mod Image
+pub mod Bad
+pub mod Calls
+pub mod Written
+pub mod Platform
+pub mod Writable
+pub mod IsImage

@@ -1,0 +1,24 @@
+//! Bytes are read as an image exactly where no member of their tree is bad; else the first bad one is named.
+#![tactic(auto)]
+
+mod copies;
+mod descriptor;
+mod fault;
+mod image;
+mod kind;
+mod list;
+mod reading;
+mod sizes;
+mod write;
+
+pub use descriptor::Descriptor;
+pub use fault::{ManifestFault, told};
+pub use image::{Image, read_absent, read_image, read_image_as, read_version};
+pub use kind::Kind;
+pub use list::{List, ListEntry, Platform};
+pub use reading::read_descriptor;
+pub use sizes::Sizes;
+pub use write::write_image;
+
+#[cfg(test)]
+mod tests;

@@ -1,0 +1,7 @@
+pub mod Words
+pub mod Policy
+pub mod Ending
+pub mod Headline
+pub mod Lines
+pub mod Lanes
+pub mod Calls
