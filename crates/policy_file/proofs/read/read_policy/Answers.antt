@@ -1,0 +1,11 @@
+use Rattle.policy_file.proofs.PolicyLaw.{read_says, said_reads}
+use Rattle.policy_file.proofs.read.read_policy.Goals as goal
+
+pub returns-in_err-tree-clause-grammar : goal.returns-in_err-tree-clause-grammar
+returns-in_err-tree-clause-grammar c = λ lists. (read_says c.args.bytes.now lists, said_reads c.args.bytes.now lists)
+
+pub returns-in-Ok-clause-grammar : goal.returns-in-Ok-clause-grammar
+returns-in-Ok-clause-grammar c = λ lists. (read_says c.args.bytes.now lists, said_reads c.args.bytes.now lists)
+
+pub returns-clause-grammar : goal.returns-clause-grammar
+returns-clause-grammar c = λ lists. (read_says c.args.bytes.now lists, said_reads c.args.bytes.now lists)

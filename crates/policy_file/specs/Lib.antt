@@ -1,0 +1,12 @@
+pub mod Judged
+pub mod Members
+pub mod Keys
+pub mod Identity
+pub mod PolicyLists
+pub mod ScopeMap
+pub mod Lookup
+pub mod PolicyOf
+pub mod IsRequirement
+pub mod IsPolicy
+pub use Rattle.image_ref.specs.Calls.{Answers}
+pub use Rattle.json_tree.specs.Tree.{tree}
