@@ -10,7 +10,8 @@ use Rattle.manifest_v2s2.specs.declared.kind.Kind.TheVariants.{V2s2}
 use Rattle.manifest_v2s2.specs.Image.{image_of}
 use Rattle.digest_reader.specs.declared.job.Job.{Job}
 use Rattle.layouts.specs.Paths.{first_signature, manifest_path, IsManifestPath, IsIn}
-use Rattle.layouts.specs.Bounds.{bounded, bounded_by, limit}
+use Rattle.layouts.specs.declared.read.Limited.TheVariants.{TooLong, Whole}
+use Rattle.layouts.specs.Bounds.{bounded, bounded_by, whole_of, limit}
 use Rattle.layouts.specs.Occupied.{is_occupied}
 use Rattle.layouts.specs.Trees.{OnlyBlobs, SameOrGone}
 use Rattle.layouts.proofs.NameLemmas.{version_not_manifest, blob_not_manifest}
@@ -36,8 +37,8 @@ bounded_is most None bytes e = let x : None ≡ Some bytes = e in cc
 bounded_is most (Some all) bytes e = by (nat_le (length all) most) refl
   where
     by : (b : Bool) → nat_le (length all) most ≡ b → Some all ≡ Some bytes
-    by true n = sym (ap (λ b. cond b (Some all) None) n) ∙ e
-    by false n = let x : None ≡ Some bytes = sym (ap (λ b. cond b (Some all) None) n) ∙ e in cc
+    by true n = sym (ap (λ b. whole_of (cond b (Whole all) TooLong)) n) ∙ e
+    by false n = let x : None ≡ Some bytes = sym (ap (λ b. whole_of (cond b (Whole all) TooLong)) n) ∙ e in cc
 
 manifest_is : (signature file : Option (List ℕ)) (bytes : List ℕ) → manifest_in signature file ≡ Ok bytes → file ≡ Some bytes
 manifest_is None (Some all) bytes e = let x : Ok all ≡ Ok bytes = e in cc
@@ -151,7 +152,7 @@ unchanged dest (Some t) = no_change_in dest t
 -- ---- every other file is as it was
 
 delivered_trees : (source dest : List ℕ) (image : Admitted) (a b : Tree) → is_occupied a dest ≡ false → IsWritten source dest image a b → IsDelivered source dest image a b
-delivered_trees source dest image a b empty w = record { manifest = w.manifest; version = w.version; blobs = w.blobs; others = λ q other. exact q (w.others q other); outside = w.outside }
+delivered_trees source dest image a b empty w = record { made = w.made; manifest = w.manifest; version = w.version; blobs = w.blobs; others = λ q other. exact q (w.others q other); outside = w.outside }
   where
     inside : (q : List ℕ) → file_at b q ≡ None → IsIn dest q → file_at b q ≡ file_at a q
     inside q gone i = gone ∙ sym (nothing_in a dest q empty i)

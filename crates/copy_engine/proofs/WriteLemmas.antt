@@ -1,5 +1,5 @@
 -- A destination that is prepared, filled and named.
-use Rattle.std.proofs.Common.{◌≡◌, ◌≢◌, List, [], ◌∷◌, ℕ, length, get_or, Option, Some, None, Result, refl, sym, ap, subst, ◌∙◌, ◌⊎◌, inl, inr}
+use Rattle.std.proofs.Common.{◌≡◌, ◌≢◌, List, [], ◌∷◌, ℕ, length, get_or, Contains, Option, Some, None, Result, refl, sym, ap, subst, ◌∙◌, ◌⊎◌, inl, inr}
 use Rattle.skopeo_outside.specs.Tree.{Tree, file_at}
 use Rattle.skopeo_outside.specs.Outside.{Told}
 use Rattle.skopeo_outside.proofs.Trees.{path_cases}
@@ -49,6 +49,7 @@ blob_apart dest digest e = blob_not_manifest dest digest (subst IsManifestPath (
 named : (source dest manifest : List ℕ) (jobs : List Job) (a b c d : Tree) → source ≢ dest → IsFilled source dest jobs a b c → IsPut (manifest_part dest) (manifest_path dest) manifest c d
     → IsWritten source dest (record { manifest = manifest; jobs = jobs }) a d
 named source dest manifest jobs a b c d apart f put = record {
+  made = subst (λ l. Contains l dest) (sym put.folders) (f.carried.kept.outside.folders.kept dest f.prepared.made);
   manifest = put.there;
   version = put.others _ (λ e. manifest_part_not_version dest (sym e)) (λ e. manifest_not_version dest (sym e)) ∙ f.carried.version ∙ f.prepared.version;
   blobs = λ k x lt. still (get_or jobs k x) (f.carried.copies k x lt);

@@ -5,5 +5,6 @@ pub mod Blobs
 pub mod Carried
 pub mod Delivered
 pub mod Headline
+pub mod Report
 pub mod ImageEnd
 pub mod Calls

@@ -8,10 +8,11 @@ ghost use Rattle.copy_engine.specs.Delivered.{IsDelivered};
 ghost use Rattle.copy_engine.specs.Headline.{ImageHeadline};
 ghost use Rattle.copy_engine.specs.Calls.{FilesCause};
 
-use crate::admit::{Admitted, admit};
+use crate::admit::admit;
 use crate::gate::Requirement;
 use crate::plan::CopyPlan;
 use crate::refusal::{Part, Refusal, stopped};
+use crate::report::{Copied, image_lines};
 use crate::write::write_image;
 use layouts::is_occupied;
 use skopeo_outside::Files;
@@ -31,7 +32,8 @@ fn require_vacant<F: Files>(alloc: Global, files: &mut F, folder: &str) -> Resul
     }
 }
 
-/// Copies one image: it is judged before the destination is touched, and its manifest is written last.
+/// Copies one image: it is judged before the destination is touched, and its manifest is written last. What is told of it
+/// is made before, so that after the manifest nothing wants memory.
 #[tactic(auto, using(crate::proofs::OutcomeLemmas::then_answers, crate::proofs::OutcomeLemmas::then_refuses, crate::proofs::CopyLemmas::none_copied, crate::proofs::CopyLemmas::copied, crate::proofs::CopyLemmas::delivered), unfolding(crate::specs::ImageEnd::image_end))]
 pub fn copy_image<F: Files>(
     alloc: Global,
@@ -39,11 +41,11 @@ pub fn copy_image<F: Files>(
     lane: u32,
     plan: &CopyPlan,
     list: &[Requirement],
-) -> Result<Admitted, Refusal>
+) -> Result<Copied, Refusal>
     requires few { length list.now < 2 ^ 32 - 16 }
     requires apart { plan.now.source ≢ plan.now.dest }
     ensures headline { Told (λ old new. ImageHeadline list.now plan.now old old new) (F.tree files.old) (F.tree files.new) }
-    ensures delivered { IfOk result (λ image. Told (IsDelivered plan.now.source plan.now.dest image) (F.tree files.old) (F.tree files.new)) }
+    ensures delivered { IfOk result (λ copied. Told (IsDelivered plan.now.source plan.now.dest copied.image) (F.tree files.old) (F.tree files.new)) }
     ensures kept { OnErr result (Told (OnlyBlobs plan.now.dest) (F.tree files.old) (F.tree files.new)) }
     ensures answer { Answers result (image_end (F.tree files.old) plan.now list.now) }
     ensures cause { FilesCause (F.faults files.old) (F.faults files.new) result }
@@ -52,6 +54,7 @@ pub fn copy_image<F: Files>(
     let dest = plan.dest.as_str();
     let image = admit(alloc, files, source, list)?;
     require_vacant(alloc, files, dest)?;
+    let lines = image_lines(alloc, &image)?;
     write_image(alloc, files, source, dest, lane, &image)?;
-    Ok(image)
+    Ok(Copied { image, lines })
 }

@@ -8,6 +8,7 @@ mod copy;
 mod gate;
 mod plan;
 mod refusal;
+mod report;
 mod source;
 mod write;
 
@@ -17,3 +18,4 @@ pub use copy::copy_image;
 pub use gate::Requirement;
 pub use plan::CopyPlan;
 pub use refusal::{BlobMismatch, Cause, Part, Refusal, Why, stopped};
+pub use report::Copied;

@@ -2,7 +2,7 @@
 use Rattle.std.proofs.Common.{◌≡◌, ◌≢◌, List, [], ◌∷◌, ℕ, zero, suc, ◌<◌, length, get_or, Contains, Option, Some, None, refl, sym, ap, subst, ◌∙◌, ◌⊎◌, inl, inr, arith}
 use Rattle.std.specs.Prelude.{codes}
 use Rattle.std.specs.Option.{option_map}
-use Rattle.std.proofs.lemmas.List.Elements.{Contains-append_left, Contains-append_cases}
+use Rattle.std.proofs.lemmas.List.Elements.{Contains-append_left, Contains-append_right, Contains-append_cases}
 use Rattle.skopeo_outside.specs.Tree.{Tree, file_at, with_folder}
 use Rattle.skopeo_outside.specs.Outside.{Told}
 use Rattle.layouts.specs.Paths.{version_path, version_part, IsIn, IsManifestPath}
@@ -36,6 +36,9 @@ one_only folder p c = by c.0 c.1 c.2
     by : (k : ℕ) → k < 1 → get_or (folder ∷ []) k p ≡ p → p ≡ folder
     by zero lt e = sym e
     by (suc k) lt e = absurd (omega arith)
+
+here : (folder : List ℕ) → Contains (folder ∷ []) folder
+here folder = (0, omega arith, refl)
 
 pub made_folder : (folder : List ℕ) (t : Tree) → MakesOnly folder t (with_folder t folder)
 made_folder folder t = record { made = λ p h. by p (Contains-append_cases t.folders (folder ∷ []) p h); kept = λ p h. Contains-append_left t.folders (folder ∷ []) p h }
@@ -90,6 +93,7 @@ version_apart folder e =
 
 prepared : (folder : List ℕ) (a c : Tree) → IsPut (version_part folder) (version_path folder) version_text (with_folder a folder) c → IsPrepared folder a c
 prepared folder a c put = record {
+  made = subst (λ l. Contains l folder) (sym put.folders) (Contains-append_right a.folders (folder ∷ []) folder (here folder));
   version = put.there;
   others = λ q apart. left q apart (path_cases q (version_part folder));
   kept = then_blobs folder a (with_folder a folder) c (made_blobs folder a)

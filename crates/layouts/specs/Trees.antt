@@ -39,8 +39,9 @@ pub record OnlyBlobs (folder : List ℕ) (old new : Tree) : Type 0 where
   pub outside : OnlyIn folder old new
   pub manifests : SameManifests old new
 
--- the folder has its file `version`, and every other file is as it was or is gone
+-- the folder was made and has its file `version`, and every other file is as it was or is gone
 pub record IsPrepared (folder : List ℕ) (old new : Tree) : Type 0 where
+  pub made : Contains new.folders folder
   pub version : file_at new (version_path folder) ≡ Some version_text
   pub others : (q : List ℕ) → q ≢ version_path folder → SameOrGone old new q
   pub kept : OnlyBlobs folder old new

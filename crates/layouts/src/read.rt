@@ -4,7 +4,7 @@ ghost use Rattle.std.specs.Option.{option_map};
 ghost use Rattle.skopeo_outside.specs.Outside.{HasCause};
 ghost use Rattle.skopeo_outside.specs.Tree.{file_at};
 ghost use Rattle.layouts.specs.Pieces.{AddsPiece};
-ghost use Rattle.layouts.specs.Bounds.{limit, bounded};
+ghost use Rattle.layouts.specs.Bounds.{limit, limited, bounded};
 
 use skopeo_outside::{Files, Many, Stop};
 use std::alloc::{AllocError, Global};
@@ -75,18 +75,38 @@ fn limit() -> usize
     4_194_304
 }
 
-fn within(bytes: Many<u8>) -> Option<Many<u8>>
-    ensures { result ≡ bounded (Some bytes) }
+/// A file that may not be too long, or why there is none.
+#[derive(Debug, Drop)]
+pub enum Limited {
+    Absent,
+    TooLong,
+    Whole(Many<u8>),
+}
+
+fn within(bytes: Many<u8>) -> Limited
+    ensures { result ≡ limited (Some bytes) }
 {
     if bytes.len() <= limit() {
-        Some(bytes)
+        Limited::Whole(bytes)
     } else {
-        None
+        Limited::TooLong
     }
 }
 
-/// A file that has at most 4,194,304 bytes, and `None` for what is no file or longer.
+/// A file that has at most 4,194,304 bytes. What is no file is absent.
 #[tactic(auto, using(crate::proofs::BoundLemmas::read_within))]
+pub fn read_limited<F: Files>(alloc: Global, files: &mut F, path: &str) -> Result<Limited, Stop>
+    ensures bytes { IfSome (F.tree files.old) (λ t. IfOk result (λ answer. answer ≡ limited (file_at t path.now))) }
+    ensures same { F.tree files.new ≡ F.tree files.old }
+    ensures cause { HasCause (F.faults files.old) (F.faults files.new) result }
+{
+    match read_front(alloc, files, path, limit() + 1)? {
+        Some(bytes) => Ok(within(bytes)),
+        None => Ok(Limited::Absent),
+    }
+}
+
+/// The same, with `None` for what is no file or longer.
 pub fn read_bounded<F: Files>(
     alloc: Global,
     files: &mut F,
@@ -96,8 +116,9 @@ pub fn read_bounded<F: Files>(
     ensures same { F.tree files.new ≡ F.tree files.old }
     ensures cause { HasCause (F.faults files.old) (F.faults files.new) result }
 {
-    match read_front(alloc, files, path, limit() + 1)? {
-        Some(bytes) => Ok(within(bytes)),
-        None => Ok(None),
+    match read_limited(alloc, files, path)? {
+        Limited::Absent => Ok(None),
+        Limited::TooLong => Ok(None),
+        Limited::Whole(bytes) => Ok(Some(bytes)),
     }
 }

@@ -6,6 +6,7 @@ use Rattle.layouts.specs.Bounds.{bounded, limit}
 use Rattle.layouts.specs.Trees.{OnlyIn, OnlyBlobs}
 use Rattle.layouts.proofs.FolderLemmas.{no_change_in}
 use Rattle.copy_engine.specs.declared.admit.Admitted.{Admitted}
+use Rattle.copy_engine.specs.declared.report.Copied.{Copied}
 use Rattle.copy_engine.specs.declared.gate.Requirement.{Requirement}
 use Rattle.copy_engine.specs.declared.refusal.Refusal.{Refusal}
 use Rattle.copy_engine.specs.Outcome.{Answers}
@@ -73,13 +74,13 @@ delivered_frame words cwd n image (Some a) None is d = d
 delivered_frame words cwd n image (Some a) (Some b) is d = framed words cwd n a b is d.outside
 
 -- the image stands where the words say
-pub delivers : (words : List (List ℕ)) (cwd : List ℕ) (n : Named) (image : Admitted) (x y : Option Tree) → Answers (Ok n) (Some (named words cwd)) → Told (IsDelivered n.plan.source n.plan.dest image) x y → Told (Delivers words cwd image) x y
-delivers words cwd n image None y is d = tt
-delivers words cwd n image (Some a) None is d = d
-delivers words cwd n image (Some a) (Some b) is d = λ m other. subst (λ k. IsDelivered k.plan.source k.plan.dest image a b) (one_named n m (sym is ∙ other)) d
+pub delivers : (words : List (List ℕ)) (cwd : List ℕ) (n : Named) (copied : Copied) (x y : Option Tree) → Answers (Ok n) (Some (named words cwd)) → Told (IsDelivered n.plan.source n.plan.dest copied.image) x y → Told (Delivers words cwd copied) x y
+delivers words cwd n copied None y is d = tt
+delivers words cwd n copied (Some a) None is d = d
+delivers words cwd n copied (Some a) (Some b) is d = λ m other. subst (λ k. IsDelivered k.plan.source k.plan.dest copied.image a b) (one_named n m (sym is ∙ other)) d
 
 -- the command ends as its image does
-pub ends_image : (words : List (List ℕ)) (cwd : List ℕ) (seen : Option Tree) (n : Named) (list : List Requirement) (r : Result Admitted Refusal) → Answers (Ok n) (Some (named words cwd)) → Answers (Ok list) (policy_at seen n.policy)
+pub ends_image : (words : List (List ℕ)) (cwd : List ℕ) (seen : Option Tree) (n : Named) (list : List Requirement) (r : Result Copied Refusal) → Answers (Ok n) (Some (named words cwd)) → Answers (Ok list) (policy_at seen n.policy)
     → Answers r (image_end seen n.plan list) → Answers r (ending words cwd seen)
 unfolding ending
 ends_image words cwd seen n list r is said end = then_answers (Some (named words cwd)) _ n r is (then_answers (policy_at seen n.policy) _ list r said end)

@@ -4,10 +4,10 @@ use Rattle.std.specs.Option.{option_map}
 use Rattle.skopeo_outside.specs.declared.stop.Stop.{Stop}
 use Rattle.skopeo_outside.specs.declared.stop.Stop.TheVariants as stop
 use Rattle.skopeo_outside.specs.Outside.{HasCause, CountsWant, Told, HasPrefixOf}
-use Rattle.skopeo_app.specs.Calls.{Seen, Gained, Tells, Finishes, IsAnswer, Ends}
+use Rattle.skopeo_app.specs.Calls.{Seen, Gained, Tells, IsUntold, Finishes, IsBefore, OutputFailed, IsAnswer, Ends}
 use Rattle.skopeo_app.specs.Lines.{refusal_line, out_lines}
 use Rattle.skopeo_app.specs.Ending.{ending}
-use Rattle.copy_engine.specs.declared.admit.Admitted.{Admitted}
+use Rattle.copy_engine.specs.declared.report.Copied.{Copied}
 use Rattle.std.specs.Prelude.{codes}
 use Rattle.copy_engine.specs.declared.refusal.Refusal.{Refusal}
 use Rattle.copy_engine.specs.declared.refusal.Refusal.TheVariants as refusal
@@ -29,8 +29,8 @@ no_more None = refl
 no_more (Some x) = ap Some (sym (append-nil x))
 
 -- nothing is told of an image that was copied
-pub finished : (image : Admitted) (fb fn wb wn : ℕ) (o : Option (List ℕ)) → Finishes (Ok image) 0 fb fn wb wn o o
-finished image fb fn wb wn o = record { answer = Ok image; same = inl refl; status = refl; line = λ f w. no_more o }
+pub finished : (copied : Copied) (fb fn wb wn : ℕ) (o : Option (List ℕ)) → Finishes (Ok copied) 0 fb fn wb wn o o
+finished copied fb fn wb wn o = record { answer = Ok copied; same = inl refl; status = refl; line = λ f w. no_more o }
 
 pub refused : (e : Refusal) (code fb fn wb wn : ℕ) (old new : Option (List ℕ)) → Tells e code fb fn wb wn old new → Finishes (Err e) code fb fn wb wn old new
 refused e code fb fn wb wn old new t = by t.same
@@ -39,24 +39,32 @@ refused e code fb fn wb wn old new t = by t.same
     by (inl same) = record { answer = Err t.told; same = inl (ap Err same); status = t.status; line = t.line }
     by (inr same) = record { answer = Err t.told; same = inr (ap Err same); status = t.status; line = t.line }
 
--- want of memory may be the answer in place of any other
-memory_answer : (words : List (List ℕ)) (cwd : List ℕ) (before after : Seen) → IsAnswer words cwd before after (Err refusal.Memory)
-memory_answer words cwd before after = record {
+-- want of memory may be the answer in place of any refusal
+memory_answer : (words : List (List ℕ)) (cwd : List ℕ) (before after : Seen) (e : Refusal) → IsAnswer words cwd before after (Err e) → IsAnswer words cwd before after (Err refusal.Memory)
+memory_answer words cwd before after e is = record {
   wanted = tt;
   of_words = λ e. let x : false ≡ true = e in cc;
   causes = record { files = λ n e. let x : None ≡ Some n = e in cc; output = λ n e. let x : None ≡ Some n = e in cc };
-  early = λ no. absurd no;
+  early = λ b. is.early (unfailed b);
   there = tt;
   printed = tt;
-  silent = λ no. absurd no;
+  silent = λ b. is.silent (unfailed b);
 }
+  where
+    unfailed : IsBefore (OutputFailed before after) refusal.Memory → IsBefore (OutputFailed before after) e
+    unfailed (inl early) = absurd early
+    unfailed (inr none) = inr none
 
 -- the end of the command
-pub ends : (words : List (List ℕ)) (cwd : List ℕ) (before after : Seen) (code : ℕ) (ended : Result Admitted Refusal) → IsAnswer words cwd before after ended
+pub ends : (words : List (List ℕ)) (cwd : List ℕ) (before after : Seen) (code : ℕ) (ended : Result Copied Refusal) → IsAnswer words cwd before after ended
     → IfSome (ending words cwd before.tree) (λ w. Told (HasPrefixOf (out_lines w)) before.out after.out)
     → Finishes ended code before.err_faults after.err_faults before.err_wants after.err_wants before.err after.err → Ends words cwd before after code
 ends words cwd before after code ended is part f = by f.same
   where
-    by : (f.answer ≡ ended) ⊎ (f.answer ≡ Err refusal.Memory) → Ends words cwd before after code
+    untold : (ended : Result Copied Refusal) → IsAnswer words cwd before after ended → IsUntold ended f.answer → IsAnswer words cwd before after f.answer
+    untold (Ok copied) so told = absurd told
+    untold (Err e) so same = subst (IsAnswer words cwd before after) (sym same) (memory_answer words cwd before after e so)
+
+    by : (f.answer ≡ ended) ⊎ IsUntold ended f.answer → Ends words cwd before after code
     by (inl same) = record { answer = f.answer; is = subst (IsAnswer words cwd before after) (sym same) is; status = f.status; told = f.line; part = part }
-    by (inr same) = record { answer = f.answer; is = subst (IsAnswer words cwd before after) (sym same) (memory_answer words cwd before after); status = f.status; told = f.line; part = part }
+    by (inr want) = record { answer = f.answer; is = untold ended is want; status = f.status; told = f.line; part = part }

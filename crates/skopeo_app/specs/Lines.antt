@@ -1,13 +1,8 @@
 -- The lines that the command writes, and its status.
-use Rattle.std.specs.Prelude.{◌++◌, List, [], ℕ, codes, length, Result, Ok, Err}
-use Rattle.std.specs.List.{flat_map}
+use Rattle.std.specs.Prelude.{◌++◌, List, [], ℕ, codes, Result, Ok, Err}
 use Rattle.std.specs.Fmt.{decimal}
 use Rattle.image_ref.specs.Digest.{digest_text}
-use Rattle.manifest_v2s2.specs.Media.{media_of}
-use Rattle.manifest_v2s2.specs.declared.kind.Kind.TheVariants.{V2s2}
-use Rattle.digest_reader.specs.declared.job.Job.{Job}
-use Rattle.digest_reader.specs.Digests.{digest}
-use Rattle.copy_engine.specs.declared.admit.Admitted.{Admitted}
+use Rattle.copy_engine.specs.declared.report.Copied.{Copied}
 use Rattle.copy_engine.specs.declared.refusal.Part.{Part}
 use Rattle.copy_engine.specs.declared.refusal.Part.TheVariants as part
 use Rattle.copy_engine.specs.declared.refusal.Why.{Why}
@@ -56,26 +51,16 @@ status_of_refusal refusal.Memory = 4
 status_of_refusal _ = 1
 
 -- the status of an answer
-abbrev pub status_of : Result Admitted Refusal → ℕ
-status_of (Ok image) = 0
+abbrev pub status_of : Result Copied Refusal → ℕ
+status_of (Ok copied) = 0
 status_of (Err refusal) = status_of_refusal refusal
 
 -- the lines on `err`
-abbrev pub err_lines : Result Admitted Refusal → List ℕ
-err_lines (Ok image) = []
+abbrev pub err_lines : Result Copied Refusal → List ℕ
+err_lines (Ok copied) = []
 err_lines (Err refusal) = refusal_line refusal
 
-abbrev pub job_line : Job → List ℕ
-job_line job = codes "blob " ++ (digest_text job.digest ++ (codes " " ++ (decimal job.size ++ codes "\n")))
-
-abbrev pub manifest_line : List ℕ → List ℕ
-manifest_line manifest = codes "manifest " ++ (digest_text (digest manifest) ++ (codes " " ++ (decimal (length manifest) ++ (codes " " ++ (media_of V2s2 ++ codes "\n")))))
-
--- the lines of an image that was copied
-unfoldable pub image_lines : Admitted → List ℕ
-image_lines image = flat_map job_line image.jobs ++ manifest_line image.manifest
-
 -- the lines on `out`
-abbrev pub out_lines : Result Admitted Refusal → List ℕ
-out_lines (Ok image) = image_lines image
+abbrev pub out_lines : Result Copied Refusal → List ℕ
+out_lines (Ok copied) = copied.lines
 out_lines (Err refusal) = []

@@ -10,7 +10,7 @@ ghost use Rattle.skopeo_app.specs.Lanes.{AreLanes, OnlyFirst, tree_at, faults_at
 
 use crate::lines::{refusal_line, status_of};
 use crate::run::run;
-use copy_engine::{Admitted, Refusal};
+use copy_engine::{Copied, Refusal};
 use skopeo_outside::{Files, Helper, Lane, Sink, Wire};
 use std::alloc::Global;
 use std::thread::Threads;
@@ -34,7 +34,7 @@ fn tell<E: Sink>(alloc: Global, err: &mut E, refusal: &Refusal) -> u8
 
 /// Tells how the command ended, and answers its status.
 #[tactic(auto, using(crate::proofs::TellingLemmas::finished, crate::proofs::TellingLemmas::refused))]
-fn finish<E: Sink>(alloc: Global, err: &mut E, ended: &Result<Admitted, Refusal>) -> u8
+fn finish<E: Sink>(alloc: Global, err: &mut E, ended: &Result<Copied, Refusal>) -> u8
     ensures { Finishes ended.now result (E.faults err.old) (E.faults err.new) (E.wants err.old) (E.wants err.new) (E.written err.old) (E.written err.new) }
 {
     match ended {
@@ -68,6 +68,7 @@ pub fn skopeo<R: Threads + Sync, W: Wire + Send, F: Files + Send, H: Helper, O: 
           faults = faults_at F.faults lanes.old.items 0;
           out = O.written out.old;
           out_faults = O.faults out.old;
+          out_wants = O.wants out.old;
           err = E.written err.old;
           err_faults = E.faults err.old;
           err_wants = E.wants err.old;
@@ -77,6 +78,7 @@ pub fn skopeo<R: Threads + Sync, W: Wire + Send, F: Files + Send, H: Helper, O: 
           faults = faults_at F.faults lanes.new.items 0;
           out = O.written out.new;
           out_faults = O.faults out.new;
+          out_wants = O.wants out.new;
           err = E.written err.new;
           err_faults = E.faults err.new;
           err_wants = E.wants err.new;

@@ -1,15 +1,13 @@
 // The lines that the command writes.
-ghost use Rattle.std.specs.Prelude.{◌≡◌, ◌++◌, [], ℕ, List, OnOk, OnErr, IfOk, IfErr, length};
-ghost use Rattle.std.specs.List.{flat_map};
+ghost use Rattle.std.specs.Prelude.{◌≡◌, ◌++◌, ◌⊎◌, ℕ, List, OnOk, OnErr, IfOk, IfErr, length};
 ghost use Rattle.std.specs.Option.{option_map};
 ghost use Rattle.std.specs.String.{string_bytes};
 ghost use Rattle.skopeo_outside.specs.Outside.{HasCause, HasPrefixOf, Told};
-ghost use Rattle.skopeo_app.specs.Lines.{word_of, why_word, cause_line, refusal_line, status_of_refusal, job_line, manifest_line, image_lines};
-ghost use Rattle.skopeo_app.specs.Calls.{IsOfOutput, OutputCause};
+ghost use Rattle.skopeo_app.specs.Lines.{word_of, why_word, cause_line, refusal_line, status_of_refusal};
+ghost use Rattle.skopeo_app.specs.Calls.{HasFailed, IsOfOutput, OutputCause};
 
-use copy_engine::{Admitted, Cause, Part, Refusal, Why};
-use digest_reader::{Job, digest_of};
-use skopeo_outside::{Memory, Sink, Stop, Text};
+use copy_engine::{Cause, Part, Refusal, Why};
+use skopeo_outside::{Memory, Sink, Stop};
 use std::alloc::Global;
 
 fn word_of(part: Part) -> &'static str
@@ -98,57 +96,15 @@ pub fn status_of(refusal: &Refusal) -> u8
     }
 }
 
-fn job_line(alloc: Global, job: &Job) -> Result<String, Memory>
-    ensures { IfOk result (λ line. string_bytes line ≡ job_line job.now) }
-{
-    let digest = job.digest.write_digest(alloc)?;
-    let digest = digest.as_str();
-    let size = job.size;
-    Ok(format!(in alloc; "blob {digest} {size}\n")?)
-}
-
-fn manifest_line(alloc: Global, manifest: &[u8]) -> Result<String, Memory>
-    ensures { IfOk result (λ line. string_bytes line ≡ manifest_line manifest.now) }
-{
-    let digest = digest_of(manifest).write_digest(alloc)?;
-    let digest = digest.as_str();
-    let size = manifest.len();
-    Ok(format!(in alloc;
-        "manifest {digest} {size} application/vnd.docker.distribution.manifest.v2+json\n"
-    )?)
-}
-
-fn job_lines(alloc: Global, jobs: &[Job]) -> Result<Text, Memory>
-    ensures { IfOk result (λ text. text ≡ flat_map job_line jobs.now) }
-{
-    let mut text = Text::new(alloc);
-    for job in jobs {
-        let line = job_line(alloc, job)?;
-        text.push_str(line.as_str())?;
-    }
-    Ok(text)
-}
-
-/// The lines of an image that was copied.
-#[tactic(auto, unfolding(crate::specs::Lines::image_lines))]
-fn image_lines(alloc: Global, image: &Admitted) -> Result<Text, Memory>
-    ensures { IfOk result (λ text. text ≡ image_lines image.now) }
-{
-    let mut text = job_lines(alloc, image.jobs.as_slice())?;
-    let line = manifest_line(alloc, image.manifest.as_slice())?;
-    text.push_str(line.as_str())?;
-    Ok(text)
-}
-
-/// Writes the lines of an image.
-pub fn print_lines<O: Sink>(alloc: Global, out: &mut O, image: &Admitted) -> Result<(), Refusal>
-    ensures printed { OnOk result (O.written out.new ≡ option_map (λ old. old ++ image_lines image.now) (O.written out.old)) }
-    ensures part { OnErr result (Told (HasPrefixOf (image_lines image.now)) (O.written out.old) (O.written out.new)) }
+/// Writes the lines of what was copied. It takes no memory of its own.
+pub fn print_lines<O: Sink>(out: &mut O, lines: &str) -> Result<(), Refusal>
+    ensures printed { OnOk result (O.written out.new ≡ option_map (λ old. old ++ lines.now) (O.written out.old)) }
+    ensures part { OnErr result (Told (HasPrefixOf lines.now) (O.written out.old) (O.written out.new)) }
     ensures only { IfErr result IsOfOutput }
+    ensures failed { OnErr result (HasFailed (O.faults out.old) (O.faults out.new) (O.wants out.old) (O.wants out.new)) }
     ensures cause { OutputCause (O.faults out.old) (O.faults out.new) result }
 {
-    let text = image_lines(alloc, image)?;
-    match out.write(text.as_str().as_bytes()) {
+    match out.write(lines.as_bytes()) {
         Ok(()) => Ok(()),
         Err(Stop::Fault) => Err(Refusal::Output(out.faults())),
         Err(Stop::Memory) => Err(Refusal::Memory),

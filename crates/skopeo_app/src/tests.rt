@@ -63,6 +63,15 @@ fn sink(alloc: Global, failing: Vec<u64>) -> MemSink {
     }
 }
 
+/// A sink that has room for its bytes ahead.
+fn reserved(alloc: Global) -> Result<MemSink, Fail> {
+    Ok(MemSink {
+        written: Many::from_vec(Vec::with_capacity(alloc, 4096)?),
+        failures: Failures::new(Vec::new(alloc)),
+        wants: 0,
+    })
+}
+
 /// Adds a source folder with a manifest, the config and one blob.
 fn add_source(
     alloc: Global,
@@ -104,7 +113,7 @@ fn run_words<R: Threads + Sync + AllocGlobal>(
         number: 0,
     })?;
     let mut helper = Idle::new();
-    let mut err = sink(alloc, Vec::new(alloc));
+    let mut err = reserved(alloc)?;
     let status = skopeo(
         rt,
         alloc,
@@ -354,6 +363,32 @@ fn ends_with_three_at_each_fault_of_the_files(rt: HostRuntime) -> Result<(), Fai
         assert_eq!(rt; left.files.shelf.get("/w/dst/manifest.json"), None);
     }
     Err("a run of a hundred calls")?
+}
+
+/// Each allocation may be refused in turn from outside: the status is then 4, and no manifest stands.
+#[test]
+fn ends_with_four_where_memory_wants(rt: HostRuntime) -> Result<(), Fail> {
+    let alloc = rt.alloc();
+    let mut files = no_files(alloc);
+    add_source(alloc, &mut files, ONE, LAYER, b"abc")?;
+    files.shelf.add("/w/p", ACCEPT)?;
+    let out = reserved(alloc)?;
+    let left = run_words(
+        &rt,
+        &["--policy", "/w/p", "copy", "dir:src", "dir:dst"],
+        files,
+        out,
+    )?;
+    if left.status == 0 {
+        assert_eq!(rt; left.out.written.as_slice(), ONE_LINES);
+        assert_eq!(rt; left.files.shelf.get("/w/dst/manifest.json"), Some(ONE));
+        return Ok(());
+    }
+    assert_eq!(rt; left.status, 4);
+    assert_eq!(rt; left.out.written.len(), 0);
+    assert_eq!(rt; left.err.written.as_slice(), b"skopeo: 4 OutOfMemory\n".as_slice());
+    assert_eq!(rt; left.files.shelf.get("/w/dst/manifest.json"), None);
+    Ok(())
 }
 
 /// The output fails: the manifest stands, and the status is 3.

@@ -19,11 +19,13 @@ returns-clause-part g c =
     let is : Answers (Ok c.in_ok-named.named) (Some (named (map string_bytes c.args.words.now) c.args.cwd.now)) = search rules in
     let said : Answers (Ok c.in_ok-list.list) (policy_at (g.F.Files.tree c.args.files.now) c.in_ok-named.named.policy) = search rules in
     let list : c.as_slice.result.now ≡ c.in_ok-list.list = search rules in
-    let r : Answers (Ok c.in_ok-image.image) (image_end (g.F.Files.tree c.args.files.now) c.in_ok-named.named.plan c.in_ok-list.list) =
-    subst (λ l. Answers (Ok c.in_ok-image.image) (image_end (g.F.Files.tree c.args.files.now) c.in_ok-named.named.plan l)) list
-    (subst (λ o. Answers (Ok c.in_ok-image.image) (image_end o c.in_ok-named.named.plan c.as_slice.result.now)) c.read_policy_file.ensures.same c.in_ok-image.ensures.answer) in
-    all_printed (ending (map string_bytes c.args.words.now) c.args.cwd.now (g.F.Files.tree c.args.files.now)) c.in_ok-image.image (g.O.Sink.written c.args.out.now) (g.O.Sink.written c.print_lines.new.out)
-    (ends_image (map string_bytes c.args.words.now) c.args.cwd.now (g.F.Files.tree c.args.files.now) c.in_ok-named.named c.in_ok-list.list (Ok c.in_ok-image.image) is said r) c.in_ok-print_lines.ensures.printed
+    let r : Answers (Ok c.in_ok-copied.copied) (image_end (g.F.Files.tree c.args.files.now) c.in_ok-named.named.plan c.in_ok-list.list) =
+    subst (λ l. Answers (Ok c.in_ok-copied.copied) (image_end (g.F.Files.tree c.args.files.now) c.in_ok-named.named.plan l)) list
+    (subst (λ o. Answers (Ok c.in_ok-copied.copied) (image_end o c.in_ok-named.named.plan c.as_slice.result.now)) c.read_policy_file.ensures.same c.in_ok-copied.ensures.answer) in
+    let lines : c.as_str-2.result.now ≡ c.in_ok-copied.copied.lines = search rules in
+    all_printed (ending (map string_bytes c.args.words.now) c.args.cwd.now (g.F.Files.tree c.args.files.now)) c.in_ok-copied.copied (g.O.Sink.written c.args.out.now) (g.O.Sink.written c.print_lines.new.out)
+    (ends_image (map string_bytes c.args.words.now) c.args.cwd.now (g.F.Files.tree c.args.files.now) c.in_ok-named.named c.in_ok-list.list (Ok c.in_ok-copied.copied) is said r)
+    (rw (← lines) c.in_ok-print_lines.ensures.printed)
 
 pub returns-in_err-print_lines-clause-headline : goal.returns-in_err-print_lines-clause-headline
 returns-in_err-print_lines-clause-headline g c =
