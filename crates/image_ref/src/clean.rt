@@ -59,7 +59,8 @@ fn write_path(alloc: Global, kept: &[&str]) -> Result<Text, Memory>
     Ok(text)
 }
 
-/// The absolute path that a path names, seen from a folder, without empty parts, `.` and `..`.
+/// The absolute path that a path names, seen from a folder, without empty parts, `.` and `..`. No
+/// file is looked at. Its error is want of memory. The grammar stands at the head of `specs/Path.antt`.
 #[tactic(auto, unfolding(crate::specs::Path::cleaned))]
 pub fn clean_path(alloc: Global, cwd: &str, path: &str) -> Result<Text, Memory>
     ensures { IfOk result (λ t. t ≡ cleaned cwd.now path.now) }

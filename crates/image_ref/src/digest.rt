@@ -99,7 +99,8 @@ fn digits_of(text: &str) -> Option<&[u8]>
     Some(digits)
 }
 
-/// The digest that the text spells: `sha256:` and 64 digits in lower case.
+/// The digest that the text spells: `sha256:` and 64 digits in lower case, and no other text.
+/// The grammar stands at the head of `specs/Digest.antt`.
 pub fn read_digest(text: &str) -> Option<Digest>
     ensures exact { result ≡ digest_of text.now }
     ensures value { IfSome result (λ d. IsDigest d × (text.now ≡ digest_text d)) }
@@ -115,12 +116,14 @@ pub fn read_digest(text: &str) -> Option<Digest>
 }
 
 impl Digest {
+    /// The digest of these bytes; each 32 bytes are one.
     pub fn from_bytes(bytes: [u8; 32]) -> Digest
         ensures { result ≡ bytes }
     {
         Digest { bytes }
     }
 
+    /// Its 32 bytes.
     pub fn as_bytes(&self) -> &[u8]
         ensures value { result.now ≡ self.now }
         ensures digest { IsDigest self.now }
@@ -128,7 +131,7 @@ impl Digest {
         self.bytes.as_slice()
     }
 
-    /// The text that spells the digest.
+    /// The one text that spells the digest. Its error is want of memory.
     pub fn write_digest(&self, alloc: Global) -> Result<Text, Memory>
         ensures text { IfOk result (λ t. t ≡ digest_text self.now) }
         ensures digest { IfOk result (λ t. IsDigestText t) }

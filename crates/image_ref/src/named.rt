@@ -101,7 +101,9 @@ fn judge(alloc: Global, pieces: &Split<'_>) -> Result<ImageRef, RefFault>
     value(alloc, pieces, digest)
 }
 
-/// The reference that the text spells, in its normal form, or the text's first fault.
+/// The reference that the text spells, in its normal form, or the text's first fault. The grammar,
+/// after the distribution project's references, stands at the head of `specs/Reference.antt`, and
+/// the order of faults in `specs/Faults.antt`.
 #[tactic(auto, unfolding(crate::specs::Reading::reading_of))]
 pub fn parse_named(alloc: Global, text: &str) -> Result<ImageRef, RefFault>
     ensures exact { Answers RefFault.Memory result (reading_of text.now) }
@@ -141,7 +143,7 @@ fn image_of(alloc: Global, named: ImageRef) -> Result<ImageRef, RefFault>
 }
 
 /// The reference of an image: as `parse_named` reads it, with the tag `latest` where the text has
-/// neither tag nor digest. It refuses both.
+/// neither tag nor digest. It refuses both, where the text has no fault before that.
 #[tactic(auto, unfolding(crate::specs::Reading::docker_of))]
 pub fn parse_docker(alloc: Global, text: &str) -> Result<ImageRef, RefFault>
     ensures exact { Answers RefFault.Memory result (docker_of text.now) }

@@ -46,7 +46,7 @@ pub fn lacks_slash(path: &str) -> bool
     path.as_bytes().iter().all(|b| *b != b'/')
 }
 
-/// Whether a text is components, joined by slashes.
+/// Whether a text is one or more components, joined by slashes.
 pub fn is_path(text: &str) -> bool
     ensures { IsTrue result ↔ IsPath text.now }
 {

@@ -20,13 +20,16 @@ use std::alloc::Global;
 /// Where an image lies.
 #[derive(Debug, Drop)]
 pub enum Place {
+    /// An image at a registry, with a tag or a digest and not both.
     Docker(ImageRef),
+    /// A folder with one image, by its clean absolute path.
     Dir(Text),
+    /// A layout by its clean absolute path, and the name of an entry where one was given.
     Oci(Text, Option<Text>),
 }
 
 impl Place {
-    /// The same place once more.
+    /// The same place once more. Its error is want of memory.
     pub fn copy(&self, alloc: Global) -> Result<Place, Memory>
         ensures { IfOk result (λ place. place ≡ self.now) }
     {
@@ -159,7 +162,8 @@ fn place_behind(
     }
 }
 
-/// The place that the text names, seen from a folder.
+/// The place that the text names, its paths seen from a folder, or why it names none. The grammar,
+/// after containers-transports(5), stands at the head of `specs/Place.antt`.
 #[tactic(auto, unfolding(crate::specs::PlaceReading::place_of))]
 pub fn parse_place(alloc: Global, text: &str, cwd: &str) -> Result<Place, PlaceFault>
     ensures exact { Answers PlaceFault.Memory result (place_of cwd.now text.now) }

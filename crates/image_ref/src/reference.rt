@@ -17,7 +17,7 @@ const INDEX_HOST: &str = "index.docker.io";
 
 const LIBRARY: &str = "library/";
 
-/// A reference in its normal form.
+/// A reference in its normal form. Only reading or copying one makes it, so its full text reads as it.
 #[derive(Debug, Drop)]
 pub struct ImageRef {
     pub(crate) host: Text,
@@ -67,7 +67,7 @@ impl ImageRef {
         self.digest.as_ref()
     }
 
-    /// Host and path as one text.
+    /// Host and path as one text. Its error is want of memory.
     pub fn repository(&self, alloc: Global) -> Result<Text, Memory>
         ensures { IfOk result (λ t. t ≡ repository_of self.now) }
     {
@@ -79,7 +79,8 @@ impl ImageRef {
 }
 
 impl ImageRef {
-    /// The full text: host, path, and the tag and the digest where they are there.
+    /// The full text: host, path, and the tag and the digest where they are there. Its error is want
+    /// of memory.
     pub fn write_text(&self, alloc: Global) -> Result<Text, Memory>
         ensures text { IfOk result (λ t. t ≡ full self.now) }
         ensures named { IfOk result (λ t. Named t self.now) }
@@ -90,7 +91,7 @@ impl ImageRef {
         Ok(text)
     }
 
-    /// The same reference once more.
+    /// The same reference once more. Its error is want of memory.
     pub fn copy(&self, alloc: Global) -> Result<ImageRef, Memory>
         ensures { IfOk result (λ r. r ≡ self.now) }
     {

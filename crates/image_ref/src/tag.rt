@@ -15,7 +15,7 @@ fn are_tag_bytes(text: &str) -> bool
         || *b == b'-')
 }
 
-/// Whether a text is a tag.
+/// Whether a text is a tag: 1 to 128 letters, digits, `_`, `.` and `-`, the first none of the last two.
 pub fn is_tag(text: &str) -> bool
     ensures { result ≡ is_tag text.now }
 {
