@@ -386,7 +386,10 @@ fn ends_with_four_where_memory_wants(rt: HostRuntime) -> Result<(), Fail> {
     }
     assert_eq!(rt; left.status, 4);
     assert_eq!(rt; left.out.written.len(), 0);
-    assert_eq!(rt; left.err.written.as_slice(), b"skopeo: 4 OutOfMemory\n".as_slice());
+    assert_eq!(rt;
+        left.err.written.as_slice(),
+        b"skopeo: 4 OutOfMemory\n".as_slice()
+    );
     assert_eq!(rt; left.files.shelf.get("/w/dst/manifest.json"), None);
     Ok(())
 }
