@@ -1,0 +1,4 @@
+pub mod PartsLaw
+pub mod ClassLaw
+pub mod CommandLaw
+pub mod SlashLemmas

@@ -1,0 +1,15 @@
+pub mod CommandOf
+pub mod FirstFault
+pub mod Parts
+pub mod Forms
+pub mod Table
+pub mod Values
+pub mod Made
+pub mod Asked
+pub mod Faults
+pub mod Pairs
+pub mod Found
+pub mod Reading
+pub mod Scan
+pub mod Help
+pub use Rattle.image_ref.specs.Calls.{Answers}
