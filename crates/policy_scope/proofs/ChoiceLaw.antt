@@ -14,10 +14,12 @@ use Rattle.image_ref.specs.Characters.{slash}
 use Rattle.image_ref.specs.Reference.{Reference, full, repository_of}
 use Rattle.image_ref.proofs.DomainLaw.{parts-some}
 use Rattle.image_ref.proofs.PartLemmas.{parts}
-use Rattle.policy_file.specs.PolicyLists.{Scope}
+use Rattle.image_ref.specs.declared.place.Place.{Place}
+use Rattle.image_ref.specs.declared.place.Place.TheVariants.{Docker, Dir, Oci}
+use Rattle.policy_file.specs.PolicyLists.{Scope, of_default}
 use Rattle.policy_file.specs.declared.requirement.Requirement.{Requirement}
-use Rattle.policy_scope.specs.Scopes.{falling, front, fronts, parents_of, path_scopes, image_scopes, namespaces, wildcards}
-use Rattle.policy_scope.specs.Chosen.{scope_at, Choice, first_or}
+use Rattle.policy_scope.specs.Scopes.{falling, front, fronts, parents_of, path_scopes, image_scopes, namespaces, wildcards, scopes}
+use Rattle.policy_scope.specs.Chosen.{scope_at, Choice, first_or, chosen}
 use Rattle.policy_scope.specs.Calls.{shortened, or_else, first_known, seen}
 use Rattle.policy_scope.proofs.FrontLaw.{shortened-joined, shortened-last, parts-lacking, shorter, whole-first}
 
@@ -152,3 +154,15 @@ pub front-miss : (there : List Scope) (text : List ℕ) (f : Found) (k : ℕ) �
     → seen f ≡ scope_at there text → is_some f ≡ false → first_known there (shortened text) ≡ first_known there (shortened (take k text))
 front-miss there text f k lt e last s h =
     ap (first_known there) (shorter text k lt e last) ∙ miss f (scope_at there text) (first_known there (shortened (take k text))) s h
+
+-- ---- a policy without scopes
+
+no_scopes : (names : List (List ℕ)) → filter_map (scope_at []) names ≡ []
+no_scopes [] = refl
+no_scopes (name ∷ more) = no_scopes more
+
+-- its default list counts for every image
+pub chosen-of_default : (default : List Requirement) (place : Place) → chosen (of_default default) place ≡ record { scope = None; list = default }
+chosen-of_default default (Docker r) = ap (first_or default) (no_scopes (scopes (Docker r)))
+chosen-of_default default (Dir path) = ap (first_or default) (no_scopes (scopes (Dir path)))
+chosen-of_default default (Oci path tag) = ap (first_or default) (no_scopes (scopes (Oci path tag)))
