@@ -1,0 +1,4 @@
+pub mod FrontLaw
+pub mod WildcardLaw
+pub mod HostLaw
+pub mod ChoiceLaw

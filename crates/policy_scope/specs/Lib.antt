@@ -1,0 +1,4 @@
+pub mod Scopes
+pub mod Chosen
+pub mod Calls
+pub mod Seen
