@@ -1,32 +1,22 @@
 -- Words that keep contracts short.
-use Rattle.std.specs.Prelude.{◌≡◌, ◌≤◌, ℕ, Bool, true, false, Option, Some, None, Result, IfErr}
+use Rattle.std.specs.Prelude.{◌≡◌, ◌≤◌, ℕ, Option, Some, None, Result, IfErr}
 use Rattle.skopeo_outside.specs.Outside.{Rose}
 use Rattle.copy_engine.specs.declared.refusal.Cause.{Cause}
 use Rattle.copy_engine.specs.declared.refusal.Cause.TheVariants as cause
-use Rattle.copy_engine.specs.declared.refusal.Part.TheVariants as part
 use Rattle.copy_engine.specs.declared.refusal.Refusal.{Refusal}
 use Rattle.copy_engine.specs.declared.refusal.Refusal.TheVariants as refusal
 use Rattle.copy_engine.specs.declared.carrying.JobFault.{JobFault}
-use Rattle.copy_engine.specs.Outcome.{files_count, output_count}
+use Rattle.copy_engine.specs.Outcome.{files_count}
 
--- a refusal of the words or of the places that they name
-abbrev pub is_of_words : Refusal → Bool
-is_of_words (refusal.NotBuilt part.Words) = true
-is_of_words (refusal.NotBuilt part.Place) = true
-is_of_words _ = false
-
--- the refusal bears no fault from outside, and is not of the words
+-- the refusal bears no fault from outside
 abbrev pub IsInner : Refusal → Type 0
-IsInner e = (files_count e ≡ None) × (output_count e ≡ None) × (is_of_words e ≡ false)
+IsInner e = files_count e ≡ None
 
--- the files' count never falls; a fault that bears it comes only where it rose, and bears it as it is at the end;
--- no other object failed, and the words are not at fault
+-- the files' count never falls; a fault that bears it comes only where it rose, and bears it as it is at the end
 pub record FilesCause {A : Type 0} (before now : ℕ) (result : Result A Refusal) : Type 0 where
   pub later : before ≤ now
   pub rose : IfErr result (λ e. (n : ℕ) → files_count e ≡ Some n → Rose before now)
   pub bears : IfErr result (λ e. (n : ℕ) → files_count e ≡ Some n → n ≡ now)
-  pub only : IfErr result (λ e. output_count e ≡ None)
-  pub other : IfErr result (λ e. is_of_words e ≡ false)
 
 -- the count that a job's fault of the files bears
 abbrev pub cause_count : Cause → Option ℕ

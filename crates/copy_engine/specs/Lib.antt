@@ -1,4 +1,5 @@
 pub mod Outcome
+pub mod Plan
 pub mod Gate
 pub mod Source
 pub mod Blobs

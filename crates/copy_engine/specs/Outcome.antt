@@ -5,7 +5,7 @@ use Rattle.skopeo_outside.specs.declared.stop.Stop.TheVariants as stop
 use Rattle.copy_engine.specs.declared.refusal.Cause.{Cause}
 use Rattle.copy_engine.specs.declared.refusal.Cause.TheVariants as cause
 use Rattle.copy_engine.specs.declared.refusal.Refusal.{Refusal}
-use Rattle.copy_engine.specs.declared.refusal.Refusal.TheVariants.{Job, Files, Output, Memory}
+use Rattle.copy_engine.specs.declared.refusal.Refusal.TheVariants.{Job, Files, Memory}
 
 abbrev pub Outcome : Type 0 → Type 0
 Outcome A = Option (Result A Refusal)
@@ -23,11 +23,6 @@ files_count (Files count) = Some count
 files_count (Job number (cause.Files count)) = Some count
 files_count _ = None
 
--- the count that a fault of the output bears
-abbrev pub output_count : Refusal → Option ℕ
-output_count (Output count) = Some count
-output_count _ = None
-
 -- want of memory or a fault outside, which may come at any step
 abbrev pub is_free_cause : Cause → Bool
 is_free_cause (cause.Files count) = true
@@ -37,7 +32,6 @@ is_free_cause _ = false
 abbrev pub is_free : Refusal → Bool
 is_free Memory = true
 is_free (Files count) = true
-is_free (Output count) = true
 is_free (Job number reason) = is_free_cause reason
 is_free _ = false
 

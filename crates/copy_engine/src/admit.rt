@@ -1,19 +1,22 @@
-// From the requirements and the source to the image that is admitted.
-ghost use Rattle.std.specs.Prelude.{◌≡◌, ◌<◌, ◌-◌, ◌^◌, IfOk, length};
+// From the policy and the source to the image that is admitted.
+ghost use Rattle.std.specs.Prelude.{◌≡◌, IfOk};
 ghost use Rattle.copy_engine.specs.Carried.{AreDistinct};
 ghost use Rattle.copy_engine.specs.Outcome.{Outcome, Answers};
 ghost use Rattle.copy_engine.specs.ImageEnd.{admitted};
 ghost use Rattle.copy_engine.specs.Calls.{FilesCause};
 
-use crate::gate::{Requirement, judge};
+use crate::gate::judge_image;
+use crate::plan::folder_in;
 use crate::refusal::Refusal;
-use crate::source::{read_manifest, read_parts};
+use crate::source::{read_manifest, read_parts, require_kind, require_unsigned};
 use digest_reader::Job;
+use image_ref::Place;
 use manifest_convert::blobs_of;
+use policy_file::Policy;
 use skopeo_outside::{Files, Many};
 use std::alloc::Global;
 
-/// The bytes of a manifest that the requirements admit, and the jobs of its image.
+/// The bytes of a manifest that the policy admits, and the jobs of its image.
 #[derive(Debug, Drop)]
 pub struct Admitted {
     pub manifest: Many<u8>,
@@ -28,18 +31,19 @@ const MOST: usize = 4_294_967_278;
 pub fn admit<F: Files>(
     alloc: Global,
     files: &mut F,
-    source: &str,
-    list: &[Requirement],
+    source: &Place,
+    policy: &Policy,
 ) -> Result<Admitted, Refusal>
-    requires few { length list.now < 2 ^ 32 - 16 }
-    ensures answer { Answers result (admitted (F.tree files.old) source.now list.now) }
+    ensures answer { Answers result (admitted (F.tree files.old) source.now policy.now) }
     ensures same { F.tree files.new ≡ F.tree files.old }
     ensures cause { FilesCause (F.faults files.old) (F.faults files.new) result }
     ensures distinct { IfOk result (λ image. AreDistinct image.jobs) }
 {
-    let manifest = read_manifest(alloc, files, source)?;
+    let manifest = read_manifest(alloc, files, folder_in(source))?;
+    require_kind(alloc, manifest.as_slice())?;
     let image = read_parts(alloc, manifest.as_slice())?;
-    judge(list)?;
+    require_unsigned(alloc, files, folder_in(source))?;
+    judge_image(alloc, policy, source)?;
     if image.layers.len() > MOST {
         return Err(Refusal::Memory);
     }

@@ -1,20 +1,21 @@
 // One image, from its source to its manifest at the destination.
-ghost use Rattle.std.specs.Prelude.{◌≡◌, ◌≢◌, ◌<◌, ◌-◌, ◌^◌, IfOk, OnErr, length};
+ghost use Rattle.std.specs.Prelude.{◌≡◌, IfOk, OnErr};
 ghost use Rattle.skopeo_outside.specs.Outside.{Told};
 ghost use Rattle.layouts.specs.Trees.{OnlyBlobs, OnlyIn};
 ghost use Rattle.copy_engine.specs.Outcome.{Outcome, Answers};
 ghost use Rattle.copy_engine.specs.ImageEnd.{vacant_at, image_end};
+ghost use Rattle.copy_engine.specs.Plan.{source_of, dest_of, IsBetweenFolders};
 ghost use Rattle.copy_engine.specs.Delivered.{IsDelivered};
 ghost use Rattle.copy_engine.specs.Headline.{ImageHeadline};
 ghost use Rattle.copy_engine.specs.Calls.{FilesCause};
 
 use crate::admit::admit;
-use crate::gate::Requirement;
-use crate::plan::CopyPlan;
+use crate::plan::{CopyPlan, folder_in};
 use crate::refusal::{Part, Refusal, stopped};
 use crate::report::{Copied, image_lines};
 use crate::write::write_image;
 use layouts::is_occupied;
+use policy_file::Policy;
 use skopeo_outside::Files;
 use std::alloc::Global;
 
@@ -40,19 +41,18 @@ pub fn copy_image<F: Files>(
     files: &mut F,
     lane: u32,
     plan: &CopyPlan,
-    list: &[Requirement],
+    policy: &Policy,
 ) -> Result<Copied, Refusal>
-    requires few { length list.now < 2 ^ 32 - 16 }
-    requires apart { plan.now.source ≢ plan.now.dest }
-    ensures headline { Told (λ old new. ImageHeadline list.now plan.now old old new) (F.tree files.old) (F.tree files.new) }
-    ensures delivered { IfOk result (λ copied. Told (IsDelivered plan.now.source plan.now.dest copied.image) (F.tree files.old) (F.tree files.new)) }
-    ensures kept { OnErr result (Told (OnlyBlobs plan.now.dest) (F.tree files.old) (F.tree files.new)) }
-    ensures answer { Answers result (image_end (F.tree files.old) plan.now list.now) }
+    requires folders { IsBetweenFolders plan.now }
+    ensures headline { Told (λ old new. ImageHeadline policy.now plan.now old old new) (F.tree files.old) (F.tree files.new) }
+    ensures delivered { IfOk result (λ copied. Told (IsDelivered (source_of plan.now) (dest_of plan.now) copied.image) (F.tree files.old) (F.tree files.new)) }
+    ensures kept { OnErr result (Told (OnlyBlobs (dest_of plan.now)) (F.tree files.old) (F.tree files.new)) }
+    ensures answer { Answers result (image_end (F.tree files.old) plan.now policy.now) }
     ensures cause { FilesCause (F.faults files.old) (F.faults files.new) result }
 {
-    let source = plan.source.as_str();
-    let dest = plan.dest.as_str();
-    let image = admit(alloc, files, source, list)?;
+    let source = folder_in(&plan.source);
+    let dest = folder_in(&plan.dest);
+    let image = admit(alloc, files, &plan.source, policy)?;
     require_vacant(alloc, files, dest)?;
     let lines = image_lines(alloc, &image)?;
     write_image(alloc, files, source, dest, lane, &image)?;

@@ -15,7 +15,6 @@ mod write;
 pub use admit::Admitted;
 pub use carrying::JobFault;
 pub use copy::copy_image;
-pub use gate::Requirement;
-pub use plan::CopyPlan;
+pub use plan::{CopyPlan, folder_in, is_folder};
 pub use refusal::{BlobMismatch, Cause, Part, Refusal, Why, stopped};
 pub use report::Copied;

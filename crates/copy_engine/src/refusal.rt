@@ -5,15 +5,14 @@ ghost use Rattle.copy_engine.specs.declared.refusal.Refusal.TheVariants as refus
 ghost use Rattle.copy_engine.specs.Outcome.{stopped};
 
 use image_ref::Digest;
-use skopeo_outside::{Memory, Stop};
+use skopeo_outside::{Memory, Stop, Text, What};
 
 /// What is not built yet.
 #[derive(Clone, Copy, Debug, PartialEq, Eq)]
 pub enum Part {
-    Words,
-    Place,
     Policy,
     Source,
+    Manifest,
     Destination,
 }
 
@@ -21,6 +20,7 @@ pub enum Part {
 #[derive(Clone, Copy, Debug, PartialEq, Eq)]
 pub enum Why {
     Reject,
+    Sigstore,
 }
 
 /// A blob of another digest or length than its job. Sizes and lengths are in bytes.
@@ -41,14 +41,20 @@ pub enum Cause {
     Memory,
 }
 
-/// Why the copy ended. A job goes by its number, a requirement by its place, both from 1.
-#[derive(Clone, Copy, Debug, PartialEq, Eq)]
+/// Why the copy of an image ended. A job goes by its number, a requirement by its place, both from 1, and by the scope of
+/// its list, `None` for the default one.
+#[derive(Debug, Drop)]
 pub enum Refusal {
     NotBuilt(Part),
-    Rejected(u32, Why),
+    /// The folder holds no image.
+    NotAnImageDir(Text),
+    /// So many bytes were come to, one more than there may be.
+    TooLarge(What, u64),
+    /// The bytes are no manifest; the first bad member by its JSON pointer (RFC 6901).
+    ManifestInvalid(Text),
+    Rejected(Option<Text>, u32, Why),
     Job(u32, Cause),
     Files(u64),
-    Output(u64),
     Memory,
 }
 

@@ -1,33 +1,18 @@
 // The image in a source folder.
-ghost use Rattle.std.specs.Prelude.{◌≡◌, Some, None, IfErr};
-ghost use Rattle.std.specs.Option.{option_map};
-ghost use Rattle.skopeo_outside.specs.Tree.{file_at};
-ghost use Rattle.layouts.specs.Bounds.{bounded};
+ghost use Rattle.std.specs.Prelude.{◌≡◌, Some, IfErr};
 ghost use Rattle.copy_engine.specs.Outcome.{Outcome, Answers};
-ghost use Rattle.copy_engine.specs.Source.{manifest_in, manifest_at, image_in};
+ghost use Rattle.copy_engine.specs.Source.{manifest_at, kind_in, image_in, unsigned_at};
 ghost use Rattle.copy_engine.specs.Calls.{FilesCause, IsInner};
 
 use crate::refusal::{Part, Refusal, stopped};
-use layouts::{in_folder, read_bounded};
-use manifest_v2s2::{Image, ManifestFault, read_image};
-use skopeo_outside::{Files, Many};
+use layouts::{Limited, in_folder, limit, read_limited};
+use manifest_convert::kind_of;
+use manifest_v2s2::{Image, Kind, ManifestFault, read_image};
+use skopeo_outside::{Files, Many, Text, What};
 use std::alloc::Global;
 
-/// A manifest that has no signature beside it.
-fn read_unsigned<F: Files>(alloc: Global, files: &mut F, path: &str) -> Result<Many<u8>, Refusal>
-    ensures answer { Answers result (option_map (λ t. manifest_in None (bounded (file_at t path.now))) (F.tree files.old)) }
-    ensures same { F.tree files.new ≡ F.tree files.old }
-    ensures cause { FilesCause (F.faults files.old) (F.faults files.new) result }
-{
-    match read_bounded(alloc, files, path) {
-        Err(stop) => Err(stopped(stop, files.faults())),
-        Ok(None) => Err(Refusal::NotBuilt(Part::Source)),
-        Ok(Some(bytes)) => Ok(bytes),
-    }
-}
-
-/// The manifest of a source folder without signatures.
-#[tactic(auto, using(crate::proofs::SourceLemmas::signed, crate::proofs::SourceLemmas::unsigned))]
+/// The manifest of a source folder.
+#[tactic(auto, unfolding(crate::specs::Source::manifest_at))]
 pub fn read_manifest<F: Files>(
     alloc: Global,
     files: &mut F,
@@ -37,12 +22,28 @@ pub fn read_manifest<F: Files>(
     ensures same { F.tree files.new ≡ F.tree files.old }
     ensures cause { FilesCause (F.faults files.old) (F.faults files.new) result }
 {
-    let signature = in_folder(alloc, source, "signature-1")?;
-    let manifest = in_folder(alloc, source, "manifest.json")?;
-    match files.size(signature.as_str()) {
+    let path = in_folder(alloc, source, "manifest.json")?;
+    match read_limited(alloc, files, path.as_str()) {
         Err(stop) => Err(stopped(stop, files.faults())),
-        Ok(Some(_)) => Err(Refusal::NotBuilt(Part::Source)),
-        Ok(None) => read_unsigned(alloc, files, manifest.as_str()),
+        Ok(Limited::Absent) => Err(Refusal::NotAnImageDir(Text::copy_of(alloc, source)?)),
+        Ok(Limited::TooLong) => Err(Refusal::TooLarge(What::Manifest, limit() as u64 + 1)),
+        Ok(Limited::Whole(bytes)) => Ok(bytes),
+    }
+}
+
+/// Refuses bytes that are no manifest of schema 2.
+#[tactic(auto, unfolding(crate::specs::Source::kind_in))]
+pub fn require_kind(alloc: Global, manifest: &[u8]) -> Result<(), Refusal>
+    ensures inner { IfErr result IsInner }
+    ensures answer { Answers result (Some (kind_in manifest.now)) }
+{
+    match kind_of(alloc, manifest, "") {
+        Ok(Kind::V2s2) => Ok(()),
+        Ok(Kind::V2s2List) => Err(Refusal::NotBuilt(Part::Manifest)),
+        Ok(Kind::Oci) => Err(Refusal::NotBuilt(Part::Manifest)),
+        Ok(Kind::OciIndex) => Err(Refusal::NotBuilt(Part::Manifest)),
+        Err(ManifestFault::Memory) => Err(Refusal::Memory),
+        Err(ManifestFault::Member(member)) => Err(Refusal::ManifestInvalid(member)),
     }
 }
 
@@ -55,6 +56,20 @@ pub fn read_parts(alloc: Global, manifest: &[u8]) -> Result<Image, Refusal>
     match read_image(alloc, manifest) {
         Ok(image) => Ok(image),
         Err(ManifestFault::Memory) => Err(Refusal::Memory),
-        Err(ManifestFault::Member(_)) => Err(Refusal::NotBuilt(Part::Source)),
+        Err(ManifestFault::Member(member)) => Err(Refusal::ManifestInvalid(member)),
+    }
+}
+
+/// Refuses a source folder with signatures.
+pub fn require_unsigned<F: Files>(alloc: Global, files: &mut F, source: &str) -> Result<(), Refusal>
+    ensures answer { Answers result (unsigned_at (F.tree files.old) source.now) }
+    ensures same { F.tree files.new ≡ F.tree files.old }
+    ensures cause { FilesCause (F.faults files.old) (F.faults files.new) result }
+{
+    let signature = in_folder(alloc, source, "signature-1")?;
+    match files.size(signature.as_str()) {
+        Err(stop) => Err(stopped(stop, files.faults())),
+        Ok(Some(_)) => Err(Refusal::NotBuilt(Part::Source)),
+        Ok(None) => Ok(()),
     }
 }

@@ -9,4 +9,4 @@ mod read;
 pub use folder::{is_occupied, prepare};
 pub use paths::{blob_part, blob_path, in_folder};
 pub use put::put_file;
-pub use read::{Limited, read_bounded, read_front, read_limited};
+pub use read::{Limited, limit, read_bounded, read_front, read_limited};

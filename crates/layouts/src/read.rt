@@ -66,9 +66,9 @@ pub fn read_front<F: Files>(
     Ok(Some(whole))
 }
 
-/// The most bytes that a manifest or a policy may have.
+/// The most bytes that a manifest or a policy may have: 4,194,304.
 #[tactic(auto, unfolding(crate::specs::Bounds::limit))]
-fn limit() -> usize
+pub fn limit() -> usize
     ensures is { result ≡ limit }
     ensures small { result < 2 ^ 32 }
 {

@@ -1,7 +1,7 @@
-pub mod WordLemmas
+pub mod OutcomeLemmas
+pub mod TaskLemmas
 pub mod PolicyLemmas
-pub mod EndLemmas
-pub mod CommandLemmas
+pub mod RunLemmas
 pub mod TellingLemmas
 pub mod LaneLemmas
 pub mod CompleteLemmas

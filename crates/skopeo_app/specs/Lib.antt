@@ -1,4 +1,5 @@
-pub mod Words
+pub mod Outcome
+pub mod Task
 pub mod Policy
 pub mod Ending
 pub mod Headline

@@ -1,24 +1,22 @@
 // The top call.
-ghost use Rattle.std.specs.Prelude.{◌≡◌, ◌++◌, ◌≤◌, ◌⊎◌, ℕ, List, IfSome, Some, length, map};
-ghost use Rattle.std.specs.Option.{option_map};
+ghost use Rattle.std.specs.Prelude.{◌≡◌, IfSome, ℕ, map};
 ghost use Rattle.std.specs.String.{string_bytes};
-ghost use Rattle.skopeo_outside.specs.Outside.{Rose, Told};
-ghost use Rattle.skopeo_app.specs.Lines.{refusal_line, status_of_refusal};
-ghost use Rattle.skopeo_app.specs.Calls.{Ends, Tells, Finishes};
+ghost use Rattle.skopeo_outside.specs.Outside.{Told};
+ghost use Rattle.skopeo_app.specs.Calls.{Seen, SinkSeen, sink_seen, Ends, Tells, Finishes};
 ghost use Rattle.skopeo_app.specs.Headline.{Headline, Frame};
 ghost use Rattle.skopeo_app.specs.Lanes.{AreLanes, OnlyFirst, tree_at, faults_at};
 
 use crate::lines::{refusal_line, status_of};
-use crate::run::run;
-use copy_engine::{Copied, Refusal};
+use crate::refusal::CommandRefusal;
+use crate::run::{Done, run};
 use skopeo_outside::{Files, Helper, Lane, Sink, Wire};
 use std::alloc::Global;
 use std::thread::Threads;
 
 /// Writes a refusal's line and answers its status. A line that cannot be written changes neither.
 #[tactic(auto, using(crate::proofs::TellingLemmas::gained))]
-fn tell<E: Sink>(alloc: Global, err: &mut E, refusal: &Refusal) -> u8
-    ensures { Tells refusal.now result (E.faults err.old) (E.faults err.new) (E.wants err.old) (E.wants err.new) (E.written err.old) (E.written err.new) }
+fn tell<E: Sink>(alloc: Global, err: &mut E, refusal: &CommandRefusal) -> u8
+    ensures { Tells refusal.now result (sink_seen E.written E.faults E.wants err.old) (sink_seen E.written E.faults E.wants err.new) }
 {
     match refusal_line(alloc, refusal) {
         Ok(line) => {
@@ -34,8 +32,8 @@ fn tell<E: Sink>(alloc: Global, err: &mut E, refusal: &Refusal) -> u8
 
 /// Tells how the command ended, and answers its status.
 #[tactic(auto, using(crate::proofs::TellingLemmas::finished, crate::proofs::TellingLemmas::refused))]
-fn finish<E: Sink>(alloc: Global, err: &mut E, ended: &Result<Copied, Refusal>) -> u8
-    ensures { Finishes ended.now result (E.faults err.old) (E.faults err.new) (E.wants err.old) (E.wants err.new) (E.written err.old) (E.written err.new) }
+fn finish<E: Sink>(alloc: Global, err: &mut E, ended: &Result<Done, CommandRefusal>) -> u8
+    ensures { Finishes ended.now result (sink_seen E.written E.faults E.wants err.old) (sink_seen E.written E.faults E.wants err.new) }
 {
     match ended {
         Ok(_) => 0,
@@ -43,13 +41,14 @@ fn finish<E: Sink>(alloc: Global, err: &mut E, ended: &Result<Copied, Refusal>) 
     }
 }
 
-/// Does what the words say, on the first lane, and answers the exit status: 0 where it was done, 1 where the words, the
-/// policy, the source or a blob is at fault, 3 where an object failed, and 4 for want of memory. `cwd` is an absolute path.
+/// Does what the words say, on the first lane, and answers the exit status: 0 where it was done, 1 where a place, the
+/// policy, the source or a blob is at fault, 2 for words, 3 where an object failed, and 4 for want of memory. `home` is the
+/// folder of the user, or empty, and `cwd` an absolute path.
 pub fn skopeo<R: Threads + Sync, W: Wire + Send, F: Files + Send, H: Helper, O: Sink, E: Sink>(
     _rt: &R,
     alloc: Global,
     words: &[String],
-    _home: &str,
+    home: &str,
     cwd: &str,
     lanes: &mut Vec<Lane<W, F>>,
     helper: &mut H,
@@ -58,33 +57,25 @@ pub fn skopeo<R: Threads + Sync, W: Wire + Send, F: Files + Send, H: Helper, O: 
 ) -> u8
     requires lanes { AreLanes lanes.old.items }
     ensures headline { IfSome (tree_at F.tree lanes.old.items 0) (λ entry. (place : ℕ)
-        → Told (Headline (map string_bytes words.now) cwd.now entry) (tree_at F.tree lanes.old.items place) (tree_at F.tree lanes.new.items place)) }
+        → Told (Headline (map string_bytes words.now) home.now cwd.now entry) (tree_at F.tree lanes.old.items place) (tree_at F.tree lanes.new.items place)) }
     ensures frame { Told (Frame (map string_bytes words.now) cwd.now) (tree_at F.tree lanes.old.items 0) (tree_at F.tree lanes.new.items 0) }
     ensures rest { OnlyFirst lanes.old.items lanes.new.items }
     ensures helper { helper.new ≡ helper.old }
-    ensures ends { Ends (map string_bytes words.now) cwd.now
+    ensures ends { Ends (map string_bytes words.now) home.now cwd.now
         (record {
           tree = tree_at F.tree lanes.old.items 0;
           faults = faults_at F.faults lanes.old.items 0;
-          out = O.written out.old;
-          out_faults = O.faults out.old;
-          out_wants = O.wants out.old;
-          err = E.written err.old;
-          err_faults = E.faults err.old;
-          err_wants = E.wants err.old;
+          out = sink_seen O.written O.faults O.wants out.old;
         })
         (record {
           tree = tree_at F.tree lanes.new.items 0;
           faults = faults_at F.faults lanes.new.items 0;
-          out = O.written out.new;
-          out_faults = O.faults out.new;
-          out_wants = O.wants out.new;
-          err = E.written err.new;
-          err_faults = E.faults err.new;
-          err_wants = E.wants err.new;
+          out = sink_seen O.written O.faults O.wants out.new;
         })
+        (sink_seen E.written E.faults E.wants err.old)
+        (sink_seen E.written E.faults E.wants err.new)
         result }
 {
-    let ended = run(alloc, words, cwd, &mut lanes[0].files, out);
+    let ended = run(alloc, words, home, cwd, &mut lanes[0].files, out);
     finish(alloc, err, &ended)
 }

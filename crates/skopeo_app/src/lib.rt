@@ -4,11 +4,14 @@
 mod command;
 mod lines;
 mod policy;
+mod refusal;
 mod run;
-mod words;
+mod task;
 
 pub use command::skopeo;
-pub use words::Named;
+pub use refusal::{CommandRefusal, Unbuilt};
+pub use run::Done;
+pub use task::{CopyTask, PolicyChoice, Task};
 
 #[cfg(test)]
 mod tests;

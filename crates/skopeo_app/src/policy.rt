@@ -1,136 +1,105 @@
-// The policy file.
-ghost use Rattle.std.specs.Prelude.{◌≡◌, Some, IfOk, IfErr, option_map};
-ghost use Rattle.serde_json.specs.View.{view, items_view, members_view};
-ghost use Rattle.serde_json.specs.Data.{object};
-ghost use Rattle.json_tree.specs.Tree.{tree};
-ghost use Rattle.layouts.specs.Bounds.{bounded};
-ghost use Rattle.copy_engine.specs.Outcome.{Outcome, Answers};
-ghost use Rattle.copy_engine.specs.Calls.{FilesCause, IsInner};
-ghost use Rattle.skopeo_app.specs.Policy.{has_only, alone, by_word, requirement_of, requirements_of, some_items, some_of, policy_of, policy_in, or_refused, policy_at};
+// The policy that counts.
+ghost use Rattle.std.specs.Prelude.{◌≡◌, Some, None, IfOk, IfErr};
+ghost use Rattle.std.specs.Option.{option_map};
+ghost use Rattle.skopeo_outside.specs.Tree.{file_at};
+ghost use Rattle.layouts.specs.Bounds.{limited};
+ghost use Rattle.policy_file.specs.PolicyOf.{policy_in};
+ghost use Rattle.skopeo_app.specs.Outcome.{Answers};
+ghost use Rattle.skopeo_app.specs.Calls.{FilesCause, IsInner};
+ghost use Rattle.skopeo_app.specs.Policy.{user_path, or_invalid, policy_file, usual_path, policy_at};
 
-use copy_engine::{Part, Refusal, Requirement, stopped};
-use json_tree::read_tree;
-use layouts::read_bounded;
-use serde_json::{Map, Value};
-use skopeo_outside::{Files, Many, Memory};
+use crate::refusal::CommandRefusal;
+use crate::task::PolicyChoice;
+use copy_engine::{Refusal, stopped};
+use image_ref::clean_path;
+use layouts::{Limited, read_limited};
+use policy_file::{Policy, PolicyFault, read_policy};
+use skopeo_outside::{Files, Memory, Text};
 use std::alloc::Global;
 
-fn has_only(members: &Map<String, Value>, name: &str) -> bool
-    ensures { result ≡ has_only name.now (members_view members.now.entries) }
-{
-    for (key, _) in members {
-        if key.as_str() != name {
-            return false;
-        }
-    }
-    true
-}
+const SYSTEM: &str = "/etc/containers/policy.json";
 
-/// The value of an object's one member, where that has the name.
-fn alone<'v>(value: &'v Value, name: &str) -> Option<&'v Value>
-    ensures { option_map (λ v. view v.now) result ≡ alone name.now (view value.now) }
-{
-    match value {
-        Value::Object(members) => {
-            if has_only(members, name) {
-                value.get(name)
-            } else {
-                None
-            }
-        }
-        _ => None,
-    }
-}
-
-fn by_word(word: &str) -> Option<Requirement>
-    ensures { result ≡ by_word word.now }
-{
-    if word == "insecureAcceptAnything" {
-        return Some(Requirement::Accept);
-    }
-    if word == "reject" {
-        return Some(Requirement::Reject);
-    }
-    None
-}
-
-fn requirement_of(value: &Value) -> Option<Requirement>
-    ensures { result ≡ requirement_of (view value.now) }
-{
-    match alone(value, "type") {
-        Some(Value::String(word)) => by_word(word.as_str()),
-        _ => None,
-    }
-}
-
-fn requirements_of(alloc: Global, items: &[Value]) -> Result<Option<Many<Requirement>>, Memory>
-    ensures { IfOk result (λ list. list ≡ requirements_of (items_view items.now)) }
-{
-    let mut list = Many::new(alloc);
-    for item in items {
-        match requirement_of(item) {
-            Some(requirement) => list.push(requirement)?,
-            None => return Ok(None),
-        }
-    }
-    Ok(Some(list))
-}
-
-#[tactic(auto, using(crate::proofs::PolicyLemmas::no_items_left, crate::proofs::PolicyLemmas::some_items_left))]
-fn some_items(alloc: Global, items: &[Value]) -> Result<Option<Many<Requirement>>, Memory>
-    ensures { IfOk result (λ list. list ≡ some_items (items_view items.now)) }
-{
-    if items.len() == 0 {
-        return Ok(None);
-    }
-    requirements_of(alloc, items)
-}
-
-fn some_of(alloc: Global, list: Option<&Value>) -> Result<Option<Many<Requirement>>, Memory>
-    ensures { IfOk result (λ found. found ≡ some_of (option_map (λ v. view v.now) list.entry)) }
-{
-    let Some(list) = list else {
-        return Ok(None);
-    };
-    let Value::Array(items) = list else {
-        return Ok(None);
-    };
-    some_items(alloc, items.as_slice())
-}
-
-fn policy_of(alloc: Global, bytes: &[u8]) -> Result<Option<Many<Requirement>>, Memory>
-    ensures { IfOk result (λ list. list ≡ policy_of (tree bytes.now)) }
-{
-    match read_tree(alloc, bytes)? {
-        Some(value) => some_of(alloc, alone(&value, "default")),
-        None => Ok(None),
-    }
-}
-
-fn policy_from(alloc: Global, bytes: &[u8]) -> Result<Many<Requirement>, Refusal>
+/// The policy that bytes are.
+fn policy_in(alloc: Global, path: &str, bytes: &[u8]) -> Result<Policy, CommandRefusal>
     ensures inner { IfErr result IsInner }
-    ensures answer { Answers result (Some (or_refused (policy_of (tree bytes.now)))) }
+    ensures answer { Answers result (Some (or_invalid path.now (policy_in bytes.now))) }
 {
-    match policy_of(alloc, bytes)? {
-        Some(list) => Ok(list),
-        None => Err(Refusal::NotBuilt(Part::Policy)),
+    match read_policy(alloc, bytes) {
+        Ok(policy) => Ok(policy),
+        Err(PolicyFault::Memory) => Err(CommandRefusal::Image(Refusal::Memory)),
+        Err(PolicyFault::Refused { fault, member }) => Err(CommandRefusal::PolicyInvalid(
+            Text::copy_of(alloc, path)?,
+            fault,
+            member,
+        )),
     }
 }
 
-/// The requirements of a policy file.
-#[tactic(auto, unfolding(crate::specs::Policy::policy_at))]
-pub fn read_policy_file<F: Files>(
+/// The policy of the file at a path.
+fn read_policy_file<F: Files>(
     alloc: Global,
     files: &mut F,
     path: &str,
-) -> Result<Many<Requirement>, Refusal>
-    ensures answer { Answers result (policy_at (F.tree files.old) path.now) }
+) -> Result<Policy, CommandRefusal>
+    ensures answer { Answers result (option_map (λ t. policy_file t path.now) (F.tree files.old)) }
     ensures same { F.tree files.new ≡ F.tree files.old }
     ensures cause { FilesCause (F.faults files.old) (F.faults files.new) result }
 {
-    match read_bounded(alloc, files, path) {
-        Err(stop) => Err(stopped(stop, files.faults())),
-        Ok(None) => Err(Refusal::NotBuilt(Part::Policy)),
-        Ok(Some(bytes)) => policy_from(alloc, bytes.as_slice()),
+    match read_limited(alloc, files, path) {
+        Err(stop) => Err(CommandRefusal::Image(stopped(stop, files.faults()))),
+        Ok(Limited::Absent) => Err(CommandRefusal::PolicyMissing(Text::copy_of(alloc, path)?)),
+        Ok(Limited::TooLong) => Err(CommandRefusal::PolicyTooLarge),
+        Ok(Limited::Whole(bytes)) => policy_in(alloc, path, bytes.as_slice()),
+    }
+}
+
+/// The policy file of the user.
+fn user_path(alloc: Global, home: &str, cwd: &str) -> Result<Text, Memory>
+    ensures { IfOk result (λ path. path ≡ user_path home.now cwd.now) }
+{
+    let mut path = Text::copy_of(alloc, home)?;
+    path.push_str("/.config/containers/policy.json")?;
+    clean_path(alloc, cwd, path.as_str())
+}
+
+/// The policy of the user where there is one, else that of the system.
+fn read_usual<F: Files>(
+    alloc: Global,
+    files: &mut F,
+    home: &str,
+    cwd: &str,
+) -> Result<Policy, CommandRefusal>
+    ensures answer { Answers result (option_map (λ t. policy_file t (usual_path t home.now cwd.now)) (F.tree files.old)) }
+    ensures same { F.tree files.new ≡ F.tree files.old }
+    ensures cause { FilesCause (F.faults files.old) (F.faults files.new) result }
+{
+    if home.is_empty() {
+        return read_policy_file(alloc, files, SYSTEM);
+    }
+    let path = user_path(alloc, home, cwd)?;
+    match files.size(path.as_str()) {
+        Err(stop) => Err(CommandRefusal::Image(stopped(stop, files.faults()))),
+        Ok(Some(_)) => read_policy_file(alloc, files, path.as_str()),
+        Ok(None) => read_policy_file(alloc, files, SYSTEM),
+    }
+}
+
+/// The policy that is asked for.
+#[tactic(auto, unfolding(crate::specs::Policy::policy_at))]
+pub fn read_policy_for<F: Files>(
+    alloc: Global,
+    files: &mut F,
+    home: &str,
+    cwd: &str,
+    choice: &PolicyChoice,
+) -> Result<Policy, CommandRefusal>
+    ensures answer { Answers result (policy_at (F.tree files.old) home.now cwd.now choice.now) }
+    ensures same { F.tree files.new ≡ F.tree files.old }
+    ensures cause { FilesCause (F.faults files.old) (F.faults files.new) result }
+{
+    match choice {
+        PolicyChoice::Anything => Ok(Policy::accept_all(alloc)?),
+        PolicyChoice::Named(path) => read_policy_file(alloc, files, path.as_str()),
+        PolicyChoice::Usual => read_usual(alloc, files, home, cwd),
     }
 }

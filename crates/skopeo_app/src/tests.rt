@@ -1,4 +1,9 @@
-use super::*;
+// Commands over the forms in memory.
+mod policy;
+mod source;
+mod words;
+
+use crate::skopeo;
 use skopeo_outside::{Failures, Idle, Lane, Many, MemFiles, MemSink};
 use std::alloc::Global;
 use std::test::Fail;
@@ -88,9 +93,13 @@ fn add_source(
     Ok(())
 }
 
-fn words(alloc: Global, list: &[&str]) -> Result<Vec<String>, Fail> {
+/// The words of a text, which stand between single blanks.
+fn words_of(alloc: Global, text: &str) -> Result<Vec<String>, Fail> {
     let mut words = Vec::new(alloc);
-    for word in list {
+    if text.is_empty() {
+        return Ok(words);
+    }
+    for word in text.split(' ') {
         words.push(String::from_str(alloc, word)?)?;
     }
     Ok(words)
@@ -99,12 +108,26 @@ fn words(alloc: Global, list: &[&str]) -> Result<Vec<String>, Fail> {
 /// Runs the command over one lane of these files.
 fn run_words<R: Threads + Sync + AllocGlobal>(
     rt: &R,
-    list: &[&str],
+    home: &str,
+    text: &str,
+    files: MemFiles,
+    out: MemSink,
+) -> Result<Left, Fail> {
+    let err = reserved(rt.alloc())?;
+    run_over_sinks(rt, home, text, files, out, err)
+}
+
+/// The same with an error output of the test's own.
+fn run_over_sinks<R: Threads + Sync + AllocGlobal>(
+    rt: &R,
+    home: &str,
+    text: &str,
     files: MemFiles,
     mut out: MemSink,
+    mut err: MemSink,
 ) -> Result<Left, Fail> {
     let alloc = rt.alloc();
-    let words = words(alloc, list)?;
+    let words = words_of(alloc, text)?;
     let mut lanes = Vec::new(alloc);
     lanes.push(Lane {
         from: Idle::new(),
@@ -113,12 +136,11 @@ fn run_words<R: Threads + Sync + AllocGlobal>(
         number: 0,
     })?;
     let mut helper = Idle::new();
-    let mut err = reserved(alloc)?;
     let status = skopeo(
         rt,
         alloc,
         words.as_slice(),
-        "",
+        home,
         "/w",
         &mut lanes,
         &mut helper,
@@ -143,12 +165,7 @@ fn copy<R: Threads + Sync + AllocGlobal>(
     let alloc = rt.alloc();
     files.shelf.add("/w/p", policy)?;
     let out = sink(alloc, Vec::new(alloc));
-    run_words(
-        rt,
-        &["--policy", "/w/p", "copy", "dir:src", "dir:dst"],
-        files,
-        out,
-    )
+    run_words(rt, "", "--policy /w/p copy dir:src dir:dst", files, out)
 }
 
 fn no_files(alloc: Global) -> MemFiles {
@@ -291,39 +308,6 @@ fn names_the_absent_blob(rt: HostRuntime) -> Result<(), Fail> {
     Ok(())
 }
 
-/// Each of these is refused by its word, and nothing is made.
-#[test]
-fn refuses_what_is_not_built(rt: HostRuntime) -> Result<(), Fail> {
-    let alloc = rt.alloc();
-    let rows: [(&[&str], &str); 5] = [
-        (&["copy", "dir:src", "dir:dst"], "words"),
-        (&["--policy", "", "copy", "dir:src", "dir:dst"], "words"),
-        (
-            &["--policy", "/w/p", "copy", "dir:src", "dir:./src/"],
-            "place",
-        ),
-        (
-            &["--policy", "/w/none", "copy", "dir:src", "dir:dst"],
-            "policy",
-        ),
-        (
-            &["--policy", "/w/p", "copy", "dir:none", "dir:dst"],
-            "source",
-        ),
-    ];
-    for (list, word) in rows {
-        let mut files = no_files(alloc);
-        add_source(alloc, &mut files, ONE, LAYER, b"abc")?;
-        files.shelf.add("/w/p", ACCEPT)?;
-        let left = run_words(&rt, list, files, sink(alloc, Vec::new(alloc)))?;
-        assert_eq!(rt; left.status, 1, "{word}");
-        let line = format!(in alloc; "skopeo: 39 NotBuilt what={word}\n")?;
-        assert!(rt; begins(&left.err.written, line.as_str()), "{word}");
-        assert_eq!(rt; left.files.shelf.get("/w/dst/version"), None);
-    }
-    Ok(())
-}
-
 #[test]
 fn refuses_an_occupied_folder(rt: HostRuntime) -> Result<(), Fail> {
     let mut files = no_files(rt.alloc());
@@ -373,12 +357,7 @@ fn ends_with_four_where_memory_wants(rt: HostRuntime) -> Result<(), Fail> {
     add_source(alloc, &mut files, ONE, LAYER, b"abc")?;
     files.shelf.add("/w/p", ACCEPT)?;
     let out = reserved(alloc)?;
-    let left = run_words(
-        &rt,
-        &["--policy", "/w/p", "copy", "dir:src", "dir:dst"],
-        files,
-        out,
-    )?;
+    let left = run_words(&rt, "", "--policy /w/p copy dir:src dir:dst", files, out)?;
     if left.status == 0 {
         assert_eq!(rt; left.out.written.as_slice(), ONE_LINES);
         assert_eq!(rt; left.files.shelf.get("/w/dst/manifest.json"), Some(ONE));
@@ -402,17 +381,35 @@ fn ends_with_three_at_a_fault_of_the_output(rt: HostRuntime) -> Result<(), Fail>
     add_source(alloc, &mut files, ONE, LAYER, b"abc")?;
     files.shelf.add("/w/p", ACCEPT)?;
     let out = sink(alloc, one_of(alloc, 1)?);
-    let left = run_words(
-        &rt,
-        &["--policy", "/w/p", "copy", "dir:src", "dir:dst"],
-        files,
-        out,
-    )?;
+    let left = run_words(&rt, "", "--policy /w/p copy dir:src dir:dst", files, out)?;
     assert_eq!(rt; left.status, 3);
     assert_eq!(rt;
         left.err.written.as_slice(),
         b"skopeo: 43 Output faults=1\n".as_slice()
     );
     assert_eq!(rt; left.files.shelf.get("/w/dst/manifest.json"), Some(ONE));
+    Ok(())
+}
+
+/// The error output fails: the status is the refusal's, and the lines of a copy are printed as ever.
+#[test]
+fn ends_as_ever_at_a_fault_of_the_error_output(rt: HostRuntime) -> Result<(), Fail> {
+    let alloc = rt.alloc();
+    for (policy, status, lines) in [(REJECT, 1, b"".as_slice()), (ACCEPT, 0, ONE_LINES)] {
+        let mut files = no_files(alloc);
+        add_source(alloc, &mut files, ONE, LAYER, b"abc")?;
+        files.shelf.add("/w/p", policy)?;
+        let left = run_over_sinks(
+            &rt,
+            "",
+            "--policy /w/p copy dir:src dir:dst",
+            files,
+            sink(alloc, Vec::new(alloc)),
+            sink(alloc, one_of(alloc, 1)?),
+        )?;
+        assert_eq!(rt; left.status, status);
+        assert_eq!(rt; left.out.written.as_slice(), lines);
+        assert_eq!(rt; left.err.written.len(), 0);
+    }
     Ok(())
 }

@@ -10,12 +10,4 @@ returns-clause-ends g c =
     let after : faults_at g.F.Files.faults (set c.args.lanes.now.items 0 (record { from = c.index_mut.result.now.from; to = c.index_mut.result.now.to; files = c.run-ended.new.files; number = c.index_mut.result.now.number })) 0 ≡ g.F.Files.faults c.run-ended.new.files = faults_set g.F.Files.faults c.args.lanes.now.items _ c.requires.lanes.some in
     let tree : tree_at g.F.Files.tree c.args.lanes.now.items 0 ≡ g.F.Files.tree c.index_mut.result.now.files = tree_first g.F.Files.tree c.args.lanes.now.items c.index_mut.result.now c.requires.lanes.some c.index_mut.ensures.value in
     let now : tree_at g.F.Files.tree (set c.args.lanes.now.items 0 (record { from = c.index_mut.result.now.from; to = c.index_mut.result.now.to; files = c.run-ended.new.files; number = c.index_mut.result.now.number })) 0 ≡ g.F.Files.tree c.run-ended.new.files = tree_set g.F.Files.tree c.args.lanes.now.items _ c.requires.lanes.some in
-    rw (before, after, tree, now) (ends _ _ _ _ _ c.run-ended.result (record {
-      wanted = c.run-ended.ensures.wanted;
-      of_words = c.run-ended.ensures.of_words;
-      causes = c.run-ended.ensures.causes;
-      early = c.run-ended.ensures.early;
-      there = c.run-ended.ensures.there;
-      printed = c.run-ended.ensures.printed;
-      silent = c.run-ended.ensures.silent;
-    }) c.run-ended.ensures.part c.finish.ensures)
+    rw (before, after, tree, now) (ends _ _ _ _ _ _ _ _ c.run-ended.result c.run-ended.ensures.run c.finish.ensures)

@@ -1,0 +1,259 @@
+// What the words ask for.
+ghost use Rattle.std.specs.Prelude.{◌≡◌, true, false, IfOk, IfErr, Some, map};
+ghost use Rattle.std.specs.String.{string_bytes};
+ghost use Rattle.skopeo_app.specs.Outcome.{Answers, Refuses};
+ghost use Rattle.skopeo_app.specs.Calls.{IsInner};
+ghost use Rattle.skopeo_app.specs.Task.{place_at, are_same, apart, plan_of, asks_more, are_built, built, by_path, choice_of, copy_of, unbuilt_at, unbuilt_sync, task_in, IsSound, task_of};
+
+use crate::refusal::{CommandRefusal, Unbuilt};
+use copy_engine::{CopyPlan, Refusal, folder_in, is_folder};
+use image_ref::{Place, PlaceFault, RefFault, clean_path, parse_named, parse_place};
+use skopeo_outside::{Memory, Text};
+use skopeo_words::{
+    Command, Common, Passing, SyncEnd, WordsFault, help_text, read_words, version_text,
+};
+use std::alloc::Global;
+
+/// Which policy counts.
+#[derive(Debug, Drop)]
+pub enum PolicyChoice {
+    /// The one that accepts every image.
+    Anything,
+    /// That of the file at this path.
+    Named(Text),
+    /// That of the user where there is one, else that of the system.
+    Usual,
+}
+
+/// One copy that is asked for.
+#[derive(Debug, Drop)]
+pub struct CopyTask {
+    pub policy: PolicyChoice,
+    pub quiet: bool,
+    pub plan: CopyPlan,
+}
+
+/// What is asked for.
+#[derive(Debug, Drop)]
+pub enum Task {
+    /// This text is to be printed.
+    Page(Text),
+    Copy(CopyTask),
+}
+
+/// The place of a text. Relative paths count from `cwd`.
+#[tactic(auto, unfolding(crate::specs::Task::place_at))]
+fn place_at(alloc: Global, cwd: &str, text: &str) -> Result<Place, CommandRefusal>
+    ensures inner { IfErr result IsInner }
+    ensures answer { Answers result (Some (place_at cwd.now text.now)) }
+{
+    match parse_place(alloc, text, cwd) {
+        Ok(place) => Ok(place),
+        Err(PlaceFault::Memory) => Err(CommandRefusal::Image(Refusal::Memory)),
+        Err(fault) => Err(CommandRefusal::Reference(Text::copy_of(alloc, text)?, fault)),
+    }
+}
+
+fn are_same(plan: &CopyPlan) -> bool
+    ensures { result ≡ are_same plan.now }
+{
+    is_folder(&plan.source)
+        && is_folder(&plan.dest)
+        && folder_in(&plan.source) == folder_in(&plan.dest)
+}
+
+fn apart(alloc: Global, plan: CopyPlan) -> Result<CopyPlan, CommandRefusal>
+    ensures inner { IfErr result IsInner }
+    ensures apart { IfOk result (λ p. are_same p ≡ false) }
+    ensures answer { Answers result (Some (apart plan)) }
+{
+    if are_same(&plan) {
+        let path = Text::copy_of(alloc, folder_in(&plan.source))?;
+        return Err(CommandRefusal::SamePlace(path));
+    }
+    Ok(plan)
+}
+
+/// The places of a copy.
+#[tactic(auto, using(crate::proofs::TaskLemmas::then_ok, crate::proofs::TaskLemmas::then_err), unfolding(crate::specs::Task::plan_of))]
+fn plan_of(alloc: Global, cwd: &str, source: &str, dest: &str) -> Result<CopyPlan, CommandRefusal>
+    ensures inner { IfErr result IsInner }
+    ensures apart { IfOk result (λ p. are_same p ≡ false) }
+    ensures answer { Answers result (Some (plan_of cwd.now source.now dest.now)) }
+{
+    let source = place_at(alloc, cwd, source)?;
+    let dest = place_at(alloc, cwd, dest)?;
+    let plan = apart(alloc, CopyPlan { source, dest })?;
+    Ok(plan)
+}
+
+fn asks_more(common: &Common, passing: &Passing, short_names: bool) -> bool
+    ensures { result ≡ asks_more common.now passing.now short_names }
+{
+    common.registries_conf.is_some()
+        || common.location_cache.is_some()
+        || common.os.is_some()
+        || common.arch.is_some()
+        || common.variant.is_some()
+        || short_names
+        || passing.all
+        || passing.preserve
+        || passing.remove_signatures
+        || passing.format.is_some()
+        || passing.src_tls.is_some()
+        || passing.dest_tls.is_some()
+        || passing.lookaside.is_some()
+        || passing.verifier.is_some()
+}
+
+fn are_built(plan: &CopyPlan) -> bool
+    ensures { result ≡ are_built plan.now }
+{
+    is_folder(&plan.source) && is_folder(&plan.dest)
+}
+
+/// Refuses options and places that are not built yet.
+fn require_built(
+    common: &Common,
+    passing: &Passing,
+    short_names: bool,
+    plan: &CopyPlan,
+) -> Result<(), CommandRefusal>
+    ensures inner { IfErr result IsInner }
+    ensures built { IfOk result (λ _. are_built plan.now ≡ true) }
+    ensures answer { Answers result (Some (built common.now passing.now short_names plan.now)) }
+{
+    if asks_more(common, passing, short_names) {
+        return Err(CommandRefusal::NotBuilt(Unbuilt::Option));
+    }
+    if !are_built(plan) {
+        return Err(CommandRefusal::NotBuilt(Unbuilt::Place));
+    }
+    Ok(())
+}
+
+/// The policy that the options ask for.
+fn choice_of(alloc: Global, cwd: &str, common: &Common) -> Result<PolicyChoice, Memory>
+    ensures { IfOk result (λ choice. choice ≡ choice_of cwd.now common.now) }
+{
+    if common.insecure_policy {
+        return Ok(PolicyChoice::Anything);
+    }
+    match &common.policy {
+        Some(path) => Ok(PolicyChoice::Named(clean_path(alloc, cwd, path.as_str())?)),
+        None => Ok(PolicyChoice::Usual),
+    }
+}
+
+/// A copy that is asked for with a command's options.
+#[tactic(auto, using(crate::proofs::TaskLemmas::then_ok, crate::proofs::TaskLemmas::then_err, crate::proofs::TaskLemmas::between), unfolding(crate::specs::Task::copy_of))]
+fn copy_of(
+    alloc: Global,
+    cwd: &str,
+    common: &Common,
+    passing: &Passing,
+    quiet: bool,
+    short_names: bool,
+    source: &str,
+    dest: &str,
+) -> Result<Task, CommandRefusal>
+    ensures inner { IfErr result IsInner }
+    ensures folders { IfOk result IsSound }
+    ensures answer { Answers result (Some (copy_of cwd.now common.now passing.now quiet short_names source.now dest.now)) }
+{
+    let plan = plan_of(alloc, cwd, source, dest)?;
+    require_built(common, passing, short_names, &plan)?;
+    let policy = choice_of(alloc, cwd, common)?;
+    Ok(Task::Copy(CopyTask {
+        policy,
+        quiet,
+        plan,
+    }))
+}
+
+/// Reads the place of a command that is not built, and refuses it.
+#[tactic(auto, using(crate::proofs::TaskLemmas::then_ok, crate::proofs::TaskLemmas::then_err), unfolding(crate::specs::Task::unbuilt_at))]
+fn unbuilt_at(alloc: Global, cwd: &str, text: &str) -> CommandRefusal
+    ensures inner { IsInner result }
+    ensures answer { Refuses {A = Task} result (Some (unbuilt_at cwd.now text.now)) }
+{
+    match place_at(alloc, cwd, text) {
+        Ok(_) => CommandRefusal::NotBuilt(Unbuilt::Command),
+        Err(refusal) => refusal,
+    }
+}
+
+/// The refusal of a text that is no reference.
+fn bad_name(alloc: Global, text: &str, fault: RefFault) -> Result<CommandRefusal, Memory>
+    ensures { IfOk result (λ e. e ≡ CommandRefusal.Reference text.now (PlaceFault.Reference fault)) }
+{
+    let text = Text::copy_of(alloc, text)?;
+    Ok(CommandRefusal::Reference(text, PlaceFault::Reference(fault)))
+}
+
+/// Reads the source of `sync`, and refuses the command.
+#[tactic(auto, unfolding(crate::specs::Task::unbuilt_sync))]
+fn unbuilt_sync(alloc: Global, from: SyncEnd, text: &str) -> CommandRefusal
+    ensures inner { IsInner result }
+    ensures answer { Refuses {A = Task} result (Some (unbuilt_sync from text.now)) }
+{
+    let SyncEnd::Docker = from else {
+        return CommandRefusal::NotBuilt(Unbuilt::Command);
+    };
+    match parse_named(alloc, text) {
+        Ok(_) => CommandRefusal::NotBuilt(Unbuilt::Command),
+        Err(RefFault::Memory) => CommandRefusal::Image(Refusal::Memory),
+        Err(fault) => match bad_name(alloc, text, fault) {
+            Ok(refusal) => refusal,
+            Err(_) => CommandRefusal::Image(Refusal::Memory),
+        },
+    }
+}
+
+#[tactic(auto, unfolding(crate::specs::Task::task_in))]
+fn task_in(alloc: Global, cwd: &str, command: &Command) -> Result<Task, CommandRefusal>
+    ensures inner { IfErr result IsInner }
+    ensures folders { IfOk result IsSound }
+    ensures answer { Answers result (Some (task_in cwd.now command.now)) }
+{
+    match command {
+        Command::Copy {
+            common,
+            passing,
+            quiet,
+            short_names,
+            source,
+            dest,
+        } => copy_of(
+            alloc,
+            cwd,
+            common,
+            passing,
+            *quiet,
+            *short_names,
+            source.as_str(),
+            dest.as_str(),
+        ),
+        Command::Sync { from, source, .. } => Err(unbuilt_sync(alloc, *from, source.as_str())),
+        Command::Inspect { image, .. } => Err(unbuilt_at(alloc, cwd, image.as_str())),
+        Command::ListTags { repository, .. } => Err(unbuilt_at(alloc, cwd, repository.as_str())),
+        Command::Delete { image, .. } => Err(unbuilt_at(alloc, cwd, image.as_str())),
+        Command::MakeImages { .. } => Err(CommandRefusal::NotBuilt(Unbuilt::Command)),
+        Command::Help(topic) => Ok(Task::Page(Text::copy_of(alloc, help_text(*topic))?)),
+        Command::Version => Ok(Task::Page(Text::copy_of(alloc, version_text())?)),
+    }
+}
+
+/// What the words ask for. Words are read first, then places, and then what is not built is refused.
+#[tactic(auto, unfolding(crate::specs::Task::task_of))]
+pub fn read_task(alloc: Global, words: &[String], cwd: &str) -> Result<Task, CommandRefusal>
+    ensures inner { IfErr result IsInner }
+    ensures folders { IfOk result IsSound }
+    ensures answer { Answers result (Some (task_of (map string_bytes words.now) cwd.now)) }
+{
+    match read_words(alloc, words) {
+        Ok(command) => task_in(alloc, cwd, &command),
+        Err(WordsFault::At(place, kind)) => Err(CommandRefusal::Words(place, kind)),
+        Err(WordsFault::Memory) => Err(CommandRefusal::Image(Refusal::Memory)),
+    }
+}
