@@ -61,6 +61,47 @@ D        | "m"  | 3                   | ,"annotations":{"a":1},"urls":[7] | /con
 D        | "m"  | x                   |                                   |                            | no JSON
 "\ud800" | "m"  | 3                   |                                   |                            | a lone surrogate is no JSON"#;
 
+/// Whole texts, in which `C` is a config, `D` a digest and `N` a line end and a tab; the first bad member; why.
+const WHOLES: &str = r#"{} | /config | the config is absent, which comes first
+{"layers":[],"schemaVersion":2}                                                            | /config           | the config alone is absent
+{"config":C,"schemaVersion":2}                                                             | /layers           | absent is not null
+{"schemaVersion":2}                                                                        | /config           | config comes before layers
+{"config":[],"layers":[],"schemaVersion":2}                                                | /config           | a list is no descriptor
+{"config":D,"layers":[],"schemaVersion":2}                                                 | /config           | nor is a digest
+{"config":C,"layers":"","schemaVersion":2}                                                 | /layers           | a text is no list
+{"config":C,"layers":false,"schemaVersion":2}                                              | /layers           | nor is false
+{"config":C,"layers":[C,7],"schemaVersion":2}                                              | /layers/1         | the second layer
+{"config":C,"layers":[[],7],"schemaVersion":2}                                             | /layers/0         | places in order
+{"config":C,"layers":[{"digest":7},7],"schemaVersion":2}                                   | /layers/1         | less deep than what the first lacks
+{"config":C,"layers":[],"schemaVersion":null}                                              | /schemaVersion    | null is no version
+{"config":C,"layers":[],"schemaVersion":"2"}                                               | /schemaVersion    | nor is a text
+{"config":C,"layers":[],"schemaVersion":-2}                                                | /schemaVersion    | nor a number below 0
+{"config":C,"layers":[],"schemaVersion":3,"schemaVersion":2}                               | ok                | of a repeated version the last counts
+{"config":C,"layers":[],"schemaVersion":2,"manifests":[]}                                  | /manifests        | a list's member
+{"config":C,"layers":[],"schemaVersion":2,"subject":7,"annotations":7,"":7}                | ok                | other members are ignored
+{"config":{"mediaType":"m","size":2},"layers":[],"schemaVersion":2}                        | /config/digest    | the digest is absent
+{"config":{"digest":null,"mediaType":"m","size":2},"layers":[],"schemaVersion":2}          | /config/digest    | null is no digest
+{"config":{"digest":"sha256:BA7816bf8f01cfea414140de5dae2223b00361a396177a9cb410ff61f20015ad","mediaType":"m","size":2},"layers":[],"schemaVersion":2} | /config/digest | digits in upper case
+{"config":{"digest":"sha512:ba7816bf8f01cfea414140de5dae2223b00361a396177a9cb410ff61f20015ad","mediaType":"m","size":2},"layers":[],"schemaVersion":2} | /config/digest | another function
+{"config":{"digest":D,"size":2},"layers":[],"schemaVersion":2}                             | /config/mediaType | the media type is absent
+{"config":{"digest":D,"mediaType":7,"size":2},"layers":[],"schemaVersion":2}               | /config/mediaType | a number is none
+{"config":{"digest":D,"mediaType":"m"},"layers":[],"schemaVersion":2}                      | /config/size      | the size is absent
+{"config":{"digest":D,"mediaType":"m","size":null},"layers":[],"schemaVersion":2}          | /config/size      | null is no size
+{"config":{"digest":D,"mediaType":"m","size":true},"layers":[],"schemaVersion":2}          | /config/size      | nor is true
+{"config":{"digest":D,"mediaType":"m","size":1.0},"layers":[],"schemaVersion":2}           | /config/size      | nor 1.0
+{"config":{"digest":D,"mediaType":"m","size":1e3},"layers":[],"schemaVersion":2}           | /config/size      | nor 1e3
+{"config":{"digest":D,"mediaType":"m","size":18446744073709551616},"layers":[],"schemaVersion":2} | /config/size | 2^64
+{"config":{"digest":D,"mediaType":"m","size":1e999},"layers":[],"schemaVersion":2}         |                   | a number beyond every float is no JSON
+{"config":{"digest":D,"mediaType":"m","size":"x","size":4},"layers":[],"schemaVersion":2}  | ok                | of a repeated size the last counts
+{"config":{"digest":D,"mediaType":"m","size":4,"size":"x"},"layers":[],"schemaVersion":2}  | /config/size      | also where that one is bad
+{"config":{"digest":D,"mediaType":"m","size":4,"platform":7,"data":[]},"layers":[],"schemaVersion":2} | ok     | other members are ignored
+{"config":{"digest":D,"mediaType":"m","size":4,"urls":7},"layers":[],"schemaVersion":2}    | /config/urls      | a number is no list
+{"config":{"digest":D,"mediaType":"m","size":4,"annotations":"x"},"layers":[],"schemaVersion":2} | /config/annotations | a text is no object
+{"config":C,"layers":[{"digest":D,"mediaType":"m","size":3},{"digest":D,"mediaType":"n","size":3}],"schemaVersion":2} | ok | one digest with two types
+N{"schemaVersion"N:2N,N"layers" : [ ] , "config":NC}N                                      | ok                | another order, and spaces
+{"config":C,"layers":[],"schemaVersion":2,}                                                |                   | a comma too many
+{"config":C,"layers":[],"schemaVersion":2}{}                                               |                   | two objects"#;
+
 /// Digests and sizes of three layers behind a config of the digest `C` and the size 2; the first bad member; why.
 const LAYERS: &str = r#"D | 3 | D | 3 | C | 2 | ok               | equal descriptors
 D | 3 | D | 4 | C | 2 | /layers/1/size   | the later one is at fault
@@ -72,6 +113,20 @@ D | 3 | D | x | D | 4 |                  | no JSON"#;
 /// The text of the cell at a place of a row, without spaces at its ends.
 fn cell(row: &str, place: usize) -> &str {
     row.split('|').nth(place).unwrap_or("").trim()
+}
+
+/// A text in which `C` stands for a config, `D` for a digest, and `N` for a line end and a tab.
+fn spelled(alloc: Global, text: &str) -> Result<Text, Memory> {
+    let mut spelled = Text::new(alloc);
+    for c in text.chars() {
+        match c {
+            'C' => spelled.push_str(CONFIG)?,
+            'D' => spelled.push_str(DIGEST)?,
+            'N' => spelled.push_str("\r\n\t")?,
+            other => spelled.push(other)?,
+        }
+    }
+    Ok(spelled)
 }
 
 /// The pointer of the first bad member, `ok` for an image, `memory` where that was wanting.
@@ -139,6 +194,16 @@ fn names_the_first_bad_member_of_an_image(rt: HostRuntime) -> Result<(), Fail> {
         let text = image_text(alloc, config_or(cell(row, 0)), cell(row, 1), cell(row, 2))?;
         let found = said(alloc, text.as_str())?;
         assert_eq!(rt; found.as_str(), cell(row, 3), "{row}");
+    }
+    Ok(())
+}
+
+#[test]
+fn names_the_first_bad_member_of_a_text(rt: HostRuntime) -> Result<(), Fail> {
+    for row in WHOLES.lines() {
+        let text = spelled(rt.alloc(), cell(row, 0))?;
+        let found = said(rt.alloc(), text.as_str())?;
+        assert_eq!(rt; found.as_str(), cell(row, 1), "{row}");
     }
     Ok(())
 }

@@ -402,3 +402,27 @@ fn alphabet(rt: HostRuntime) -> Result<(), Fail> {
     assert_eq!(rt; found.as_str(), wanted.as_str());
     Ok(())
 }
+
+/// The policy whose one requirement has an unread member of so many lists within one another; the policy is three
+/// levels more.
+fn nested(alloc: Global, lists: u8) -> Result<Text, Memory> {
+    let mut text = Text::from_str(alloc, "{\"default\":[{\"type\":\"sigstoreSigned\",\"a\":")?;
+    for _ in 0..lists {
+        text.push_str("[")?;
+    }
+    for _ in 0..lists {
+        text.push_str("]")?;
+    }
+    text.push_str("}]}")?;
+    Ok(text)
+}
+
+#[test]
+fn json_nests_at_most_127_levels(rt: HostRuntime) -> Result<(), Fail> {
+    for (lists, wanted) in [(124u8, "sigstore"), (125, "NotJson ")] {
+        let text = nested(rt.alloc(), lists)?;
+        let found = reading(rt.alloc(), text.as_str())?;
+        assert_eq!(rt; found.as_str(), wanted, "{lists} lists");
+    }
+    Ok(())
+}
