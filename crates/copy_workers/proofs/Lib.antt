@@ -1,0 +1,10 @@
+pub mod Ends
+pub mod Working
+pub mod Keeping
+pub mod Ordering
+pub mod Gathering
+pub mod Settling
+pub mod Popping
+pub mod Hiring
+pub mod Running
+pub mod Alone

@@ -1,0 +1,10 @@
+pub mod Receipts
+pub mod Jobs
+pub mod Lanes
+pub mod Kept
+pub mod Secured
+pub mod Gathered
+pub mod Outcomes
+pub mod Works
+pub mod Teams
+pub mod Plain
