@@ -1,0 +1,13 @@
+pub mod HeadLines
+pub mod UniqueBlocks
+pub mod UniqueHeads
+pub mod UniqueSizes
+pub mod UniqueChunkParts
+pub mod UniqueChunks
+pub mod UniqueOutcome
+pub mod OneHead
+pub mod RequestHeads
+pub mod WriteLaws
+pub mod ToldLemmas
+pub mod WrittenLemmas
+pub mod FramingLemmas

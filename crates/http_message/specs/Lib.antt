@@ -1,0 +1,14 @@
+pub mod Outcome
+pub mod Blocks
+pub mod Heads
+pub mod Framing
+pub mod Bodies
+pub mod Chunks
+pub mod ChunkedBody
+pub mod Spelling
+pub mod Shown
+pub mod Faults
+pub mod Written
+pub mod Sent
+pub mod Requests
+pub mod Writes

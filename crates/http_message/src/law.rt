@@ -1,0 +1,28 @@
+// Laws of the definitions.
+ghost use Rattle.std.specs.Prelude.{ℕ, Bool, List};
+ghost use Rattle.skopeo_outside.specs.Wire.{Conversation};
+ghost use Rattle.http_message.specs.declared.request.Request.{Request};
+ghost use Rattle.http_message.specs.Spelling.{OneOutcome};
+ghost use Rattle.http_message.specs.Requests.{OneHead, PutsNone, DeletesNone};
+ghost use Rattle.http_message.specs.Writes.{OwnWrites, PutWrites, PlainRequests};
+
+/// All bytes that were received spell at most one outcome, so it plays no part in what pieces they came.
+pub fn one_outcome()
+    ensures outcome { (get : Bool) (limit : ℕ) → OneOutcome get limit }
+{}
+
+/// What was sent of a request has that request's head and no other, and behind it a front of its body.
+/// Where the request is no manifest's put it puts none, and where it is no DELETE it deletes nothing.
+pub fn one_head()
+    ensures head { (r : Request) → OneHead r }
+    ensures puts_none { (r : Request) → PutsNone r }
+    ensures deletes_none { (r : Request) → DeletesNone r }
+{}
+
+/// A request writes no manifest on a wire but its own, a put that tells its body's type writes that one,
+/// and conversations of other requests write none and delete nothing.
+pub fn own_writes()
+    ensures own { (r : Request) → OwnWrites r }
+    ensures put { (r : Request) → PutWrites r }
+    ensures plain { (gained : List Conversation) → PlainRequests gained }
+{}
