@@ -4,16 +4,16 @@
 ghost use Rattle.std.specs.Prelude.{◌≡◌, ◌≤◌, IfOk};
 ghost use Rattle.skopeo_app.specs.Lanes.{AreLanes};
 
+mod begin;
 mod files;
 mod stream;
 
+use begin::{Unbegun, begin, refuse};
 use files::RealFiles;
 use skopeo_app::skopeo;
 use skopeo_outside::{Idle, Lane};
 use std::alloc::{AllocError, Global};
 use std::process::ExitCode;
-use std::rt::Env;
-use std::{env, io};
 use stream::Stream;
 
 /// The lanes of a copy.
@@ -39,35 +39,29 @@ fn make_lanes<'r, R: std::rt::Files + AllocGlobal + Clone + Drop>(
     Ok(lanes)
 }
 
-/// The words of the command line, without the program's name.
-fn read_words<R: Env + AllocGlobal>(rt: &R) -> io::Result<Vec<String>> {
-    let mut words = Vec::new(rt.alloc());
-    for word in env::args(rt)?.skip(1) {
-        words.push(word)?;
-    }
-    Ok(words)
-}
-
-fn main(rt: HostRuntime) -> io::Result<ExitCode> {
+fn main(rt: HostRuntime) -> ExitCode {
     let alloc = rt.alloc();
-    let words = read_words(&rt)?;
-    let cwd = env::current_dir(&rt)?;
-    let cwd = cwd.as_path().to_str().unwrap_or("/");
-    let home = env::var(&rt, "HOME").unwrap_or(String::new(alloc));
-    let mut lanes = make_lanes(alloc, &rt)?;
+    let mut err = Stream::new(rt.stderr());
+    let begin = match begin(&rt) {
+        Ok(begin) => begin,
+        Err(why) => return ExitCode::from(refuse(&mut err, why)),
+    };
+    let mut lanes = match make_lanes(alloc, &rt) {
+        Ok(lanes) => lanes,
+        Err(_) => return ExitCode::from(refuse(&mut err, Unbegun::Memory)),
+    };
     let mut helper = Idle::new();
     let mut out = Stream::new(rt.stdout());
-    let mut err = Stream::new(rt.stderr());
     let status = skopeo(
         &rt,
         alloc,
-        &words,
-        home.as_str(),
-        cwd,
+        &begin.words,
+        begin.home.as_str(),
+        begin.cwd.as_str(),
         &mut lanes,
         &mut helper,
         &mut out,
         &mut err,
     );
-    Ok(ExitCode::from(status))
+    ExitCode::from(status)
 }
