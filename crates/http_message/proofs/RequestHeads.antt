@@ -1,13 +1,13 @@
 -- The heads of the requests that we send.
-use Rattle.std.proofs.Common.{◌≡◌, ◌≢◌, ℕ, zero, suc, ◌==◌, ◌<◌, ◌≤◌, ◌+◌, ◌/◌, ◌%◌, ◌^◌, ◌⊎◌, inl, inr, Bool, true, false, not, ◌&&◌, ◌||◌, List, [], ◌∷◌, ◌++◌, length, codes, Option, Some, None, MatchOption, refl, ap, sym, subst, ◌∙◌, append_assoc, arith, lit<}
+use Rattle.std.proofs.Common.{◌≡◌, ◌≢◌, ℕ, zero, suc, ◌==◌, ◌<◌, ◌+◌, ◌%◌, ◌^◌, ◌⊎◌, inl, inr, Bool, true, false, not, ◌&&◌, List, [], ◌∷◌, ◌++◌, codes, Option, Some, None, MatchOption, refl, ap, sym, subst, ◌∙◌, arith, lit<}
 use Rattle.std.proofs.lemmas.Bool.Decides.{nat_tests}
 use Rattle.std.proofs.lemmas.Fmt.{decimal_by_steps, decimal_digit}
 use Rattle.std.specs.Fmt.{decimal}
 use Rattle.std.specs.List.{list_all}
 use Rattle.std.specs.Char.{is_ascii_uppercase}
 use Rattle.http_message.specs.declared.request.Request.{Request}
-use Rattle.http_message.specs.Sent.{begins, is_one_line, is_line, are_lines, with_head, length_line, Counts, HasHead, has_method, puts_manifest, deletes}
-use Rattle.http_message.specs.Requests.{first_line, accept_line, type_line, size_line, lines_of, text_of, counted, manifest_types, IsClean, Begins, IsManifestPut, OneHead, PutsNone, DeletesNone}
+use Rattle.http_message.specs.Sent.{begins, is_one_line, is_line, are_lines, length_line, Counts, puts_manifest, deletes}
+use Rattle.http_message.specs.Requests.{first_line, accept_line, type_line, size_line, lines_of, counted, manifest_types, IsClean, IsManifestPut, OneHead, PutsNone, DeletesNone}
 use Rattle.http_message.proofs.OneHead.{and_left, and_right, only_head}
 
 both : (a b : Bool) → a ≡ true → b ≡ true → (a && b) ≡ true

@@ -1,5 +1,5 @@
 -- Which header lines are told.
-use Rattle.std.proofs.Common.{◌≡◌, ℕ, Bool, true, false, List, [], ◌∷◌, ◌++◌, map, refl, ap, sym, subst, ◌∙◌, cond, if◌then◌else◌, ◌&&◌}
+use Rattle.std.proofs.Common.{◌≡◌, ℕ, Bool, true, false, List, [], ◌∷◌, ◌++◌, map, refl, ap, sym, subst, ◌∙◌, if◌then◌else◌, ◌&&◌}
 use Rattle.httparse.specs.Grammar.{ResponseHead, status_code}
 use Rattle.http_message.specs.Heads.{headers_of}
 use Rattle.std.specs.Str.{IsUtf8, is_utf8}

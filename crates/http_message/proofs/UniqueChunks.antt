@@ -1,5 +1,5 @@
 -- Runs of chunks: two that stop are one.
-use Rattle.std.proofs.Common.{◌≡◌, ℕ, suc, zero, ◌+◌, ◌<◌, ◌≤◌, ◌⊎◌, inl, inr, Bool, List, [], ◌++◌, length, length-append, take, drop, refl, arith, ap, sym, subst, ◌∙◌}
+use Rattle.std.proofs.Common.{◌≡◌, ℕ, suc, zero, ◌+◌, ◌<◌, ◌≤◌, ◌⊎◌, inl, inr, Bool, List, ◌++◌, length, length-append, take, drop, arith, ap, sym, subst, ◌∙◌}
 use Rattle.http_message.specs.Outcome.{Outcome}
 use Rattle.http_message.specs.ChunkedBody.{OneChunk, Chunks, LastChunk, NoNextChunk}
 use Rattle.http_message.proofs.UniqueBlocks.{le_or_lt}

@@ -1,11 +1,10 @@
 -- All bytes that came spell at most one outcome.
-use Rattle.std.proofs.Common.{◌≡◌, ◌≢◌, ℕ, Bool, true, false, List, [], length, refl, ap, sym, subst, ◌∙◌}
-use Rattle.httparse.specs.Grammar.{ResponseHead, status_code}
+use Rattle.std.proofs.Common.{◌≡◌, ℕ, Bool, List, length, ap, sym, subst, ◌∙◌}
+use Rattle.httparse.specs.Grammar.{ResponseHead}
 use Rattle.http_message.specs.declared.framing.Framing.{Framing}
 use Rattle.http_message.specs.declared.framing.Framing.TheVariants.{Wrong, Sized, Chunked, ToEnd}
 use Rattle.http_message.specs.Outcome.{Outcome, answer}
-use Rattle.http_message.specs.Heads.{most_interim, headers_of}
-use Rattle.http_message.specs.Framing.{framing_of}
+use Rattle.http_message.specs.Heads.{most_interim}
 use Rattle.http_message.specs.ChunkedBody.{NoNextChunk, LastChunk}
 use Rattle.http_message.specs.Spelling.{FramedBody, NoFramedBody, answer_with, BehindHead, coded, bare, framed, broken, Spells, no_head, behind_head}
 use Rattle.http_message.proofs.UniqueBlocks.{true_is_not_false}

@@ -1,11 +1,10 @@
 -- What requests write on a wire.
-use Rattle.std.proofs.Common.{◌≡◌, ◌≢◌, ℕ, true, false, Bool, List, [], ◌∷◌, ◌++◌, codes, Option, Some, None, refl, ap, sym, subst, ◌∙◌, ◌<◌, arith}
-use Rattle.std.specs.Prelude.{Contains}
+use Rattle.std.proofs.Common.{◌≡◌, ◌≢◌, ℕ, true, false, Bool, List, [], ◌∷◌, ◌++◌, codes, Option, Some, None, refl, sym, subst, ◌∙◌, ◌<◌, arith}
 use Rattle.skopeo_outside.specs.Wire.{Conversation}
 use Rattle.http_message.specs.declared.request.Request.{Request}
-use Rattle.http_message.specs.Sent.{HasHead, puts_manifest, IsWhole, Whole}
-use Rattle.http_message.specs.Requests.{accept_line, type_line, size_line, lines_of, IsClean, IsManifestPut, manifest_types}
-use Rattle.http_message.specs.Writes.{Write, IsPutOn, IsPlain, IsBegun, IsPutOf, OwnWrites, PutWrites, BeginsPlain, PlainRequests}
+use Rattle.http_message.specs.Sent.{puts_manifest}
+use Rattle.http_message.specs.Requests.{accept_line, type_line, size_line}
+use Rattle.http_message.specs.Writes.{OwnWrites, PutWrites, PlainRequests}
 use Rattle.http_message.proofs.RequestHeads.{one_head, puts_none, deletes_none, are_lines_of}
 
 pub own_writes : (r : Request) → OwnWrites r

@@ -1,5 +1,5 @@
 -- The manifests that were put on a wire, by what was sent in its conversations.
-use Rattle.std.specs.Prelude.{◌≡◌, ◌≢◌, ℕ, true, false, List, ◌++◌, codes, Contains, Option, None}
+use Rattle.std.specs.Prelude.{◌≡◌, ◌≢◌, ℕ, true, false, List, ◌++◌, codes, Contains, None}
 use Rattle.skopeo_outside.specs.Wire.{Conversation}
 use Rattle.http_message.specs.declared.request.Request.{Request}
 use Rattle.http_message.specs.Sent.{HasHead, puts_manifest, deletes}

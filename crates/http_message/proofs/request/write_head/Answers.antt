@@ -1,4 +1,4 @@
-use Rattle.std.proofs.Common.{◌≡◌, ℕ, List, [], ◌∷◌, ◌++◌, codes, ap, ◌∙◌}
+use Rattle.std.proofs.Common.{ℕ, List, [], ◌∷◌, ◌++◌, codes, ap, ◌∙◌}
 use Rattle.http_message.specs.Requests.{first_line, accept_line, type_line, size_line, lines_of}
 use Rattle.http_message.specs.Sent.{with_head}
 use Rattle.http_message.specs.Written.{written}
