@@ -4,3 +4,11 @@ pub mod PutLemmas
 pub mod NameLemmas
 pub mod FolderLemmas
 pub mod OccupiedLemmas
+pub mod FaultLemmas
+pub mod SignatureLemmas
+pub mod WrittenLemmas
+pub mod RemovalLemmas
+pub mod ListingLemmas
+pub mod ClearLemmas
+pub mod DestinationLemmas
+pub mod ReplaceLemmas

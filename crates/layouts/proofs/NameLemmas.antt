@@ -1,11 +1,16 @@
 -- Which paths of a folder differ, and which may be a manifest's.
-use Rattle.std.proofs.Common.{◌≡◌, ◌≢◌, List, [], ◌∷◌, ◌++◌, length, codes, slice_index, ℕ, zero, suc, ◌/◌, ◌%◌, true≢false, ◌+◌, ◌^◌, ◌<◌, map, subst, inl, inr, ◌==◌, Bool, true, false, not, ◌&&◌, refl, sym, ap, ◌∙◌, arith}
+use Rattle.std.proofs.Common.{◌≡◌, ◌≢◌, List, [], ◌∷◌, ◌++◌, length, codes, slice_index, ℕ, zero, suc, ◌/◌, ◌%◌, true≢false, ◌+◌, ◌^◌, ◌<◌, map, subst, inl, inr, ◌==◌, Bool, true, false, not, ◌&&◌, refl, sym, ap, ◌∙◌, arith, append_assoc, Option, Some, None}
 use Rattle.hex.specs.Hex.{encode_lower, encode_with, lower_digits}
 use Rattle.std.specs.Fmt.{decimal}
 use Rattle.std.specs.Int.Digits.{digits_of}
 use Rattle.std.proofs.lemmas.Fmt.{decimal-digits_of, decimal_digit}
 use Rattle.std.proofs.lemmas.Bool.{ne_eqb}
 use Rattle.skopeo_outside.specs.Folders.{joined}
+use Rattle.std.proofs.lemmas.List.{append_cancel_left, append_cancel_right}
+use Rattle.std.proofs.lemmas.Fmt.{decimal_injective}
+use Rattle.skopeo_outside.proofs.Children.{same_rest}
+use Rattle.layouts.specs.Names.{signature_by}
+use Rattle.layouts.specs.Written.{signature_at, signature_part_at}
 use Rattle.layouts.specs.Paths.{blob_path, blob_part, manifest_path, manifest_part, version_path, version_part, IsManifestName, IsManifestPath, IsIn, avoids, no_slash}
 
 and_false : (b : Bool) → (b && false) ≡ false
@@ -26,11 +31,11 @@ same_name [] (y ∷ b) m n p q e = let f : m ≡ b ++ 47 ∷ n = cc in absurd (c
 same_name (x ∷ a) [] m n p q e = let f : n ≡ a ++ 47 ∷ m = cc in absurd (clash n a m q f)
 same_name (x ∷ a) (y ∷ b) m n p q e = let f : a ++ 47 ∷ m ≡ b ++ 47 ∷ n = cc in same_name a b m n p q f
 
-both : (a b : Bool) → (a && b) ≡ true → (a ≡ true) × (b ≡ true)
+pub both : (a b : Bool) → (a && b) ≡ true → (a ≡ true) × (b ≡ true)
 both true b e = (refl, e)
 both false b e = let no : false ≡ true = e in absurd (true≢false (sym no))
 
-from_both : (a b : Bool) → a ≡ true → b ≡ true → (a && b) ≡ true
+pub from_both : (a b : Bool) → a ≡ true → b ≡ true → (a && b) ≡ true
 from_both a b p q = ap (λ x. x && b) p ∙ q
 
 -- what a table holds, and 0 past its end, is another character
@@ -53,14 +58,20 @@ avoids-append : (c : ℕ) (a b : List ℕ) → avoids c a ≡ true → avoids c 
 avoids-append c [] b p q = q
 avoids-append c (x ∷ a) b p q = from_both _ _ (both (not (x == c)) (avoids c a) p).0 (avoids-append c a b (both (not (x == c)) (avoids c a) p).1 q)
 
-digits_avoid : (ds : List ℕ) → avoids 47 (map (λ d. 48 + d) ds) ≡ true
-digits_avoid [] = refl
-digits_avoid (d ∷ ds) = from_both _ _ (ap not (ne_eqb (48 + d) 47 (λ e. omega (arith, e)))) (digits_avoid ds)
+digits_avoid : (c : ℕ) (ds : List ℕ) → c < 48 → avoids c (map (λ d. 48 + d) ds) ≡ true
+digits_avoid c [] low = refl
+digits_avoid c (d ∷ ds) low = from_both _ _ (ap not (ne_eqb (48 + d) c (λ e. omega (arith, e, low)))) (digits_avoid c ds low)
 
--- a number has no slash
+decimal_without : (c n : ℕ) → c < 48 → n < 2 ^ 64 → avoids c (decimal n) ≡ true
+decimal_without c zero low small = ap (avoids c) (decimal_digit 0 (omega arith)) ∙ digits_avoid c (0 ∷ []) low
+decimal_without c (suc n) low small = ap (avoids c) (decimal-digits_of (suc n) (omega arith) small) ∙ digits_avoid c (digits_of 10 (suc n)) low
+
+-- a number has no slash, and no dot
 decimal_avoids : (n : ℕ) → n < 2 ^ 64 → no_slash (decimal n) ≡ true
-decimal_avoids zero small = ap (avoids 47) (decimal_digit 0 (omega arith))
-decimal_avoids (suc n) small = ap (avoids 47) (decimal-digits_of (suc n) (omega arith) small) ∙ digits_avoid (digits_of 10 (suc n))
+decimal_avoids n small = decimal_without 47 n (omega arith) small
+
+decimal_no_dot : (n : ℕ) → n < 2 ^ 64 → avoids 46 (decimal n) ≡ true
+decimal_no_dot n small = decimal_without 46 n (omega arith) small
 
 part_plain : (digest : List ℕ) (lane : ℕ) → lane < 2 ^ 64 → no_slash (encode_lower digest ++ (codes ".part-" ++ decimal lane)) ≡ true
 part_plain digest lane small = avoids-append 47 (encode_lower digest) _ (hex_no_slash digest) (decimal_avoids lane small)
@@ -215,3 +226,23 @@ outside_is_other folder p q i outside e = outside (subst (IsIn folder) (sym e) i
 -- a blob of one folder is not in another
 pub blob_not_in : (source dest digest : List ℕ) → source ≢ dest → IsIn dest (blob_path source digest) → ⊥
 blob_not_in source dest digest apart i = apart (same_folder source dest _ i.name (hex_no_slash digest) i.plain i.is)
+
+-- ---- signatures
+
+-- a signature's name behind its prefix, with what follows its number
+numbered_name : (prefix : List ℕ) (n : ℕ) (tail : List ℕ) → signature_by prefix n ++ tail ≡ prefix ++ (codes "signature-" ++ (decimal n ++ tail))
+numbered_name prefix n tail = append_assoc prefix (codes "signature-" ++ decimal n) tail ∙ ap (λ l. prefix ++ l) (append_assoc (codes "signature-") (decimal n) tail)
+
+same_numbers : (prefix a b : List ℕ) → prefix ++ (codes "signature-" ++ a) ≡ prefix ++ (codes "signature-" ++ b) → a ≡ b
+same_numbers prefix a b e = append_cancel_left (codes "signature-") a b (append_cancel_left prefix _ _ e)
+
+pub signatures_apart : (folder prefix : List ℕ) (m n : ℕ) → m < 2 ^ 64 → n < 2 ^ 64 → m ≢ n → signature_at folder prefix m ≢ signature_at folder prefix n
+signatures_apart folder prefix m n small other apart e = apart (decimal_injective m n small other (same_numbers prefix _ _ (same_rest folder _ _ e)))
+
+pub signature_parts_apart : (folder prefix : List ℕ) (m n : ℕ) → m < 2 ^ 64 → n < 2 ^ 64 → m ≢ n → signature_part_at folder prefix m ≢ signature_part_at folder prefix n
+signature_parts_apart folder prefix m n small other apart e =
+    apart (decimal_injective m n small other (same_numbers prefix _ _ (append_cancel_right (signature_by prefix m) (signature_by prefix n) (codes ".part") (same_rest folder _ _ e))))
+
+pub signature_not_part : (folder prefix : List ℕ) (m n : ℕ) → m < 2 ^ 64 → signature_at folder prefix m ≢ signature_part_at folder prefix n
+signature_not_part folder prefix m n small e =
+    no_dot (decimal m) (decimal n) (codes "part") (decimal_no_dot m small) (same_numbers prefix _ _ (same_rest folder _ _ e ∙ numbered_name prefix n (codes ".part")))
