@@ -13,7 +13,7 @@ use Rattle.copy_workers.specs.Plain.{up_to, alone_view, HasDone}
 use Rattle.location_cache.specs.Rule.{spent}
 use Rattle.copy_workers.proofs.Gathering.{gathered_none, gather_more}
 use Rattle.copy_workers.proofs.Settling.{Ready}
-use Rattle.copy_workers.proofs.Working.{works_more}
+use Rattle.copy_workers.proofs.Working.{is_fresh, works_more}
 use Rattle.copy_workers.proofs.Keeping.{keeps_front}
 use Rattle.copy_workers.proofs.Ordering.{at_place}
 use Rattle.copy_workers.specs.Kept.{KeepsAll}
@@ -47,6 +47,10 @@ module _ {L O : Type 0} (tells : Lore L O) (jobs : List Job) (job : Job) (k : �
       works_more tells jobs job (k + 1) k lane outcomes (alone_view k []) 0 new (alone_view (k + 1) []) (alone_view (k + 1) fails) after are works refl lk is
       record { drawn = up_to_more k; failed = refl; room = refl } (λ earlier h. below_next k earlier h)
       record { outcome = o; job_is = number; lane_is = number_lane; added = added; told = told; names = names; kept = kept; drawn = refl; room = refl; noted = noted }
+
+-- the next job of a lane that works alone was not asked for
+pub next_unasked : {L O : Type 0} (tells : Lore L O) (jobs : List Job) (job : Job) (k : ℕ) (lane : L) (outcomes : List Outcome) → AreJobs jobs → Works tells jobs lane outcomes (alone_view k []) → k < length jobs → job ≡ get_or jobs k job → tells.asked lane job ≡ []
+next_unasked tells jobs job k lane outcomes are works lk is = (is_fresh tells jobs job (k + 1) k lane outcomes (alone_view k []) are works refl lk is (λ earlier h. below_next k earlier h)).1
 
 pub one_item : {A : Type 0} (xs : List A) (y : A) → length xs ≡ 1 → set xs 0 y ≡ y ∷ []
 one_item [] y e = absurd (omega arith)

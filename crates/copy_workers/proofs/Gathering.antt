@@ -1,7 +1,7 @@
 -- The outcomes of one more lane.
 use Rattle.std.proofs.Common.{◌≡◌, ◌⊎◌, ℕ, zero, suc, ◌+◌, ◌<◌, ◌==◌, nat_le, cond, Some, None, Result, Ok, Err, List, [], ◌∷◌, ◌++◌, length, Contains, All, IsErr, refl, sym, ap, ◌∙◌, subst, inl, inr, ⊎_elim, eq-zero-or-pos, arith}
 use Rattle.std.specs.Prelude.{slice_get}
-use Rattle.std.proofs.lemmas.List.Sums.{sum_by-append, sum_by-cons}
+use Rattle.std.proofs.lemmas.List.Sums.{sum_by-append}
 use Rattle.std.proofs.lemmas.List.Elements.{Contains-append_cases, Contains-append_left, Contains-append_right, Contains-push_cases}
 use Rattle.std.proofs.lemmas.Bool.Decides.{nat_tests}
 use Rattle.location_cache.specs.declared.view.View.{View}
@@ -13,6 +13,7 @@ use Rattle.copy_workers.specs.declared.receipt.Outcome.{Outcome}
 use Rattle.copy_workers.specs.Lanes.{Lore, EndsAs}
 use Rattle.copy_workers.specs.Works.{ended, Works}
 use Rattle.copy_workers.specs.Gathered.{Gathered}
+use Rattle.copy_workers.proofs.Working.{ended-cons}
 
 get_front : {A : Type 0} (xs ys : List A) (k : ℕ) (x : A) → slice_get xs k ≡ Some x → slice_get (xs ++ ys) k ≡ Some x
 get_front [] ys k x e = absurd (cc)
@@ -23,8 +24,11 @@ get_last : {A : Type 0} (xs : List A) (x : A) → slice_get (xs ++ x ∷ []) (le
 get_last [] x = refl
 get_last (y ∷ xs) x = get_last xs x
 
-ended-cons : (job : ℕ) (o : Outcome) (os : List Outcome) → ended job (o ∷ os) ≡ cond (o.job == job) 1 0 + ended job os
-ended-cons job o os = sum_by-cons (λ (y : Outcome). cond (y.job == job) 1 0) o os
+get_cases : {A : Type 0} (xs : List A) (y : A) (k : ℕ) (x : A) → slice_get (xs ++ y ∷ []) k ≡ Some x → (slice_get xs k ≡ Some x) ⊎ ((k ≡ length xs) × (y ≡ x))
+get_cases [] y zero x e = inr (refl, cc e)
+get_cases [] y (suc k) x e = absurd (cc e)
+get_cases (z ∷ xs) y zero x e = inl e
+get_cases (z ∷ xs) y (suc k) x e = ⊎_elim (λ (h : slice_get xs k ≡ Some x). inl h) (λ (h : (k ≡ length xs) × (y ≡ x)). inr (ap suc h.0, h.1)) (get_cases xs y k x e)
 
 one_is : (a b : ℕ) → 0 < cond (a == b) 1 0 → a ≡ b
 one_is a b h = grind (arith, nat_tests)
@@ -54,6 +58,7 @@ module _ {L O : Type 0} (tells : Lore L O) (jobs : List Job) where
   gathered_none v drawn fails = record {
     told = λ o j ho. absurd (let l = ho.1 in omega arith);
     blame = λ l j hl. absurd (let h = hl.1 in omega arith);
+    asked = λ m l j at. absurd (cc at);
     drawn = λ m. none m (length jobs) (times m v.drawn) (ap (times m) drawn);
     fails = λ m h. absurd (let e = ap (times m) fails in omega arith);
   }
@@ -78,6 +83,13 @@ module _ {L O : Type 0} (tells : Lore L O) (jobs : List Job) where
           (before.blame l j old hj))
           (λ (same : lane ≡ l). subst (λ (x : L). (tells.failed x j ≡ None) ⊎ ((o : Outcome) × Contains (all ++ outcomes) o × (o.job ≡ j.number) × IsErr o.end)) same (mine j hj))
           (Contains-push_cases lanes lane l hl);
+      asked = λ m l j at hj. ⊎_elim
+          (λ (old : slice_get lanes m ≡ Some l). ⊎_elim
+          (λ (none : tells.asked l j ≡ []). inl none)
+          (λ (some_one : (o : Outcome) × Contains all o × (o.job ≡ j.number) × (o.lane ≡ m)). inr (some_one.0, Contains-append_left all outcomes some_one.0 some_one.1, some_one.2, some_one.3))
+          (before.asked m l j old hj))
+          (λ (last : (m ≡ length lanes) × (lane ≡ l)). answered m l j last.0 last.1 hj)
+          (get_cases lanes lane m l at);
       drawn = λ m. ended_append m all outcomes ∙ within_both m (length jobs) (times m v.drawn) (times m u.drawn) (ended m all) (ended m outcomes) (times m w.drawn) (before.drawn m) (works.drawn m) (ap (times m) drawn ∙ times_append m v.drawn u.drawn);
       fails = λ m h. elim (eq-zero-or-pos (times m v.failed)) [
         | inl z ↦ (let f = works.fails m (let e = ap (times m) fails ∙ times_append m v.failed u.failed in omega arith) in (f.0, Contains-append_right all outcomes f.0 f.1, f.2))
@@ -89,8 +101,16 @@ module _ {L O : Type 0} (tells : Lore L O) (jobs : List Job) where
         by_end j o (Ok how) is here job tells = inl tells.1
         by_end j o (Err cause) is here job tells = inr (o, Contains-append_right all outcomes o here, job, subst IsErr (sym is) refl)
 
+        answered : (m : ℕ) (l : L) (j : Job) → m ≡ length lanes → lane ≡ l → Contains jobs j → (tells.asked l j ≡ []) ⊎ ((o : Outcome) × Contains (all ++ outcomes) o × (o.job ≡ j.number) × (o.lane ≡ m))
+        answered m l j last same hj = elim (eq-zero-or-pos (ended j.number outcomes)) [
+          | inl z ↦ inl (ap (λ (x : L). tells.asked x j) (sym same) ∙ (works.quiet j hj z).1)
+          | inr p ↦ (let f = find_ended j.number outcomes p in
+              let at : f.0.lane ≡ length lanes = ap (λ (y : Outcome). y.lane) (sym f.1.2) ∙ number f.1.0 f.0 f.1.1 in
+              inr (f.0, Contains-append_right all outcomes f.0 f.1, f.2, at ∙ sym last))
+        ]
+
         mine : (j : Job) → Contains jobs j → (tells.failed lane j ≡ None) ⊎ ((o : Outcome) × Contains (all ++ outcomes) o × (o.job ≡ j.number) × IsErr o.end)
         mine j hj = elim (eq-zero-or-pos (ended j.number outcomes)) [
-          | inl z ↦ inl (works.quiet j hj z)
+          | inl z ↦ inl (works.quiet j hj z).0
           | inr p ↦ (let f = find_ended j.number outcomes p in by_end j f.0 f.0.end refl f.1 f.2 (works.told f.0 j f.1 hj (sym f.2)))
         ]

@@ -10,9 +10,9 @@ use Rattle.location_cache.specs.Seats.{TableId, Seated}
 use Rattle.digest_reader.specs.declared.job.Job.{Job}
 use Rattle.copy_workers.specs.declared.receipt.Outcome.{Outcome}
 use Rattle.copy_workers.specs.declared.worker.Worker.{Worker}
-use Rattle.copy_workers.specs.Lanes.{Lore, Calm}
+use Rattle.copy_workers.specs.Lanes.{Lore, IsUnused}
 use Rattle.copy_workers.specs.Works.{IsFresh}
-use Rattle.copy_workers.specs.Teams.{IsReady, AreNumbered, HasRoom, AreCalm, Hires, rooms, lanes_of}
+use Rattle.copy_workers.specs.Teams.{IsReady, AreNumbered, HasRoom, AreUnused, Hires, rooms, lanes_of}
 use Rattle.copy_workers.proofs.Popping.{all_rest, all_last, rooms_last, lanes_last}
 
 numbered_push : {L J : Type 0} (total : ℕ) (all ws : List (Worker L J)) (w : Worker L J) → all ≡ ws ++ w ∷ [] → AreNumbered total ws → w.number + length ws + 1 ≡ total → AreNumbered total all
@@ -25,7 +25,7 @@ module _ {L J O : Type 0} (tells : Lore L O) (desk : TableId) (jobs : List Job) 
   pub record Staffs (lanes : List L) (lists : List (Vec Outcome Global)) (workers : List (Worker L J)) : Type 0 where
     pub ready : All (IsReady tells desk jobs) workers
     pub numbered : AreNumbered total workers
-    pub calm : AreCalm tells lanes
+    pub unused : AreUnused tells jobs lanes
     pub empty : All (HasRoom (length jobs)) lists
     pub all : length workers + length lanes ≡ total
 
@@ -33,13 +33,13 @@ module _ {L J O : Type 0} (tells : Lore L O) (desk : TableId) (jobs : List Job) 
   hire_one seat lanes kept lists rest workers after h s own fresh =
       let w = h.worker in
       let list = all_last (HasRoom (length jobs)) lists rest w.outcomes h.lists_are s.empty in
-      let lane = all_last (Calm tells) lanes kept w.lane h.lanes_are s.calm in
+      let lane = all_last (IsUnused tells jobs) lanes kept w.lane h.lanes_are s.unused in
       let ready : IsReady tells desk jobs w = record {
         own = ap (λ (x : Seated). x.desk) h.seat_is ∙ own;
         room = list.room;
         seat = subst (λ (x : Seated). IsFresh x.view) (sym h.seat_is) fresh;
         empty = list.empty;
-        calm = lane;
+        unused = lane;
       } in
       let len = ap length h.lanes_are in
       let size = length-append kept (w.lane ∷ []) in
@@ -50,7 +50,7 @@ module _ {L J O : Type 0} (tells : Lore L O) (desk : TableId) (jobs : List Job) 
       record {
         ready = subst (λ l. All (IsReady tells desk jobs) l) (sym h.added) (All-push (IsReady tells desk jobs) workers w s.ready ready);
         numbered = numbered_push total after workers w h.added s.numbered (omega arith);
-        calm = all_rest (Calm tells) lanes kept w.lane h.lanes_are s.calm;
+        unused = all_rest (IsUnused tells jobs) lanes kept w.lane h.lanes_are s.unused;
         empty = all_rest (HasRoom (length jobs)) lists rest w.outcomes h.lists_are s.empty;
         all = omega arith;
       }

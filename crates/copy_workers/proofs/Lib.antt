@@ -8,3 +8,5 @@ pub mod Popping
 pub mod Hiring
 pub mod Running
 pub mod Alone
+pub mod AskedLemmas
+pub mod Lasting

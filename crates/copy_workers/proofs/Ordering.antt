@@ -1,17 +1,22 @@
 -- Sorted outcomes of jobs that ended once each stand in the order of the jobs.
-use Rattle.std.proofs.Common.{◌≡◌, ℕ, zero, suc, ◌+◌, ◌<◌, ◌≤◌, ◌==◌, cond, List, [], ◌∷◌, length, get_or, subst, inl, inr, eq-zero-or-pos, zero-le, arith}
-use Rattle.std.proofs.lemmas.List.Sums.{sum_by-cons}
+use Rattle.std.proofs.Common.{◌≡◌, ℕ, zero, suc, ◌+◌, ◌<◌, ◌≤◌, ◌==◌, nat_le, nat_lt, cond, List, [], ◌∷◌, length, get_or, ◌∙◌, subst, inl, inr, eq-zero-or-pos, zero-le, arith}
 use Rattle.std.proofs.lemmas.Bool.Decides.{nat_tests}
 use Rattle.copy_workers.specs.declared.receipt.Outcome.{Outcome}
 use Rattle.copy_workers.specs.Works.{ended}
-use Rattle.copy_workers.specs.Gathered.{InOrder, between}
+use Rattle.location_cache.specs.Rule.{once_to}
+use Rattle.copy_workers.specs.Gathered.{InOrder}
+use Rattle.copy_workers.proofs.Working.{ended-cons}
+
+-- 1 of each job above k, up to m
+abbrev between : ℕ → ℕ → ℕ → ℕ
+between k m job = cond (nat_lt k job) (cond (nat_le job m) 1 0) 0
+
+between_none : (m job : ℕ) → once_to m job ≡ between 0 m job
+between_none m job = grind (arith, nat_tests)
 
 abbrev pub Ascends : ℕ → List Outcome → Type 0
 Ascends x [] = Unit {0}
 Ascends x (o ∷ os) = (x ≤ o.job) × Ascends o.job os
-
-ended-cons : (job : ℕ) (o : Outcome) (os : List Outcome) → ended job (o ∷ os) ≡ cond (o.job == job) 1 0 + ended job os
-ended-cons job o os = sum_by-cons (λ (y : Outcome). cond (y.job == job) 1 0) o os
 
 low : (job x : ℕ) (os : List Outcome) → Ascends x os → 0 < ended job os → x ≤ job
 low job x [] up h = absurd (omega arith)
@@ -35,19 +40,22 @@ rest_counts x k m job rest all xk lt e is = grind (arith, nat_tests)
 nothing_left : (k m : ℕ) → k ≤ m → 0 ≡ between k m (k + 1) → k ≡ m
 nothing_left k m le e = grind (arith, nat_tests)
 
-pub in_order : (os : List Outcome) (k m : ℕ) → k ≤ m → Ascends 0 os → ((job : ℕ) → ended job os ≡ between k m job) → InOrder k os × (length os + k ≡ m)
-in_order [] k m le up once = (tt, let e = nothing_left k m le (once (k + 1)) in omega arith)
-in_order (o ∷ os) k m le up once =
+in_order_from : (os : List Outcome) (k m : ℕ) → k ≤ m → Ascends 0 os → ((job : ℕ) → ended job os ≡ between k m job) → InOrder k os × (length os + k ≡ m)
+in_order_from [] k m le up once = (tt, let e = nothing_left k m le (once (k + 1)) in omega arith)
+in_order_from (o ∷ os) k m le up once =
     let x : ℕ = o.job in
     let r = in_range x k m (ended x os) (ended x (o ∷ os)) (ended-cons x o os) (once x) in
     let lt : k < m = omega arith in
     let xk = some_next x k m (ended (k + 1) os) (ended (k + 1) (o ∷ os)) lt (ended-cons (k + 1) o os) (once (k + 1)) (low (k + 1) x os up.1) r.0 in
-    let rest = in_order os (k + 1) m (omega arith) (lower x os up.1) (λ job. rest_counts x k m job (ended job os) (ended job (o ∷ os)) xk lt (ended-cons job o os) (once job)) in
+    let rest = in_order_from os (k + 1) m (omega arith) (lower x os up.1) (λ job. rest_counts x k m job (ended job os) (ended job (o ∷ os)) xk lt (ended-cons job o os) (once job)) in
     ((xk, rest.0), (let l = rest.1 in omega arith))
   where
     lower : (x : ℕ) (os : List Outcome) → Ascends x os → Ascends 0 os
     lower x [] up = tt
     lower x (o ∷ os) up = (zero-le, up.1)
+
+pub in_order : (os : List Outcome) (m : ℕ) → Ascends 0 os → ((job : ℕ) → ended job os ≡ once_to m job) → InOrder 0 os × (length os ≡ m)
+in_order os m up once = let r = in_order_from os 0 m zero-le up (λ job. once job ∙ between_none m job) in (r.0, (let l = r.1 in omega arith))
 
 -- the outcome at a place
 pub at_place : (os : List Outcome) (k i : ℕ) (d : Outcome) → InOrder k os → i < length os → (get_or os i d).job ≡ k + i + 1

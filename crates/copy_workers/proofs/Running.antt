@@ -1,5 +1,5 @@
 -- Workers that have worked.
-use Rattle.std.proofs.Common.{◌≡◌, ℕ, zero, suc, ◌-◌, ◌*◌, ◌<◌, ◌≤◌, List, [], ◌∷◌, map, length, get_or, All, vec_len, sum_by, refl, sym, ap, ◌∙◌, subst, suc-mul, mul-le-mul_right, le_trans, zero-le, arith}
+use Rattle.std.proofs.Common.{◌≡◌, ℕ, suc, ◌-◌, ◌*◌, ◌<◌, ◌≤◌, List, [], ◌∷◌, map, length, get_or, All, vec_len, sum_by, refl, sym, ap, ◌∙◌, subst, suc-mul, mul-le-mul_right, le_trans, zero-le, arith}
 use Rattle.std.proofs.lemmas.List.Sums.{sum_by-cons}
 use Rattle.std.proofs.lemmas.List.{get_or-reverse, get_or-map, length-map, length-reverse}
 use Rattle.location_cache.specs.Seats.{TableId}
@@ -7,6 +7,7 @@ use Rattle.digest_reader.specs.declared.job.Job.{Job}
 use Rattle.copy_workers.specs.Lanes.{Lore}
 use Rattle.copy_workers.specs.declared.worker.Worker.{Worker}
 use Rattle.copy_workers.specs.Kept.{KeepsAll, EachKeeps}
+use Rattle.copy_workers.proofs.Working.{pick}
 use Rattle.copy_workers.specs.Teams.{EachWorked, IsFinished, AreNumbered, rooms, outcomes_of, lanes_of}
 
 sum_same : {A : Type 0} (f : A → ℕ) (xs ys : List A) → length ys ≡ length xs → ((k : ℕ) (d : A) → k < length xs → f (get_or ys k d) ≡ f (get_or xs k d)) → sum_by f ys ≡ sum_by f xs
@@ -24,11 +25,6 @@ sum_most f n (x ∷ xs) h =
     let first : f x ≤ n = h 0 x (omega arith) in
     let rest = sum_most f n xs (λ k d lk. h (suc k) d (omega arith)) in
     omega (arith, sum_by-cons f x xs, suc-mul (length xs) n)
-
-pick : {A : Type 0} (xs : List A) (k : ℕ) → k < length xs → A
-pick [] k h = absurd (omega arith)
-pick (x ∷ xs) zero h = x
-pick (x ∷ xs) (suc k) h = pick xs k (omega arith)
 
 module _ {L J O : Type 0} (tells : Lore L O) (desk : TableId) (jobs : List Job) (old new : List (Worker L J)) (len : length new ≡ length old) (each : EachWorked tells desk jobs old new) where
   pub finished : All (IsFinished tells desk jobs) new
@@ -61,4 +57,4 @@ module _ {L J O : Type 0} (tells : Lore L O) (desk : TableId) (jobs : List Job) 
   keeps_lanes k l lk =
       let m = length-map old (λ (w : Worker L J). w.lane) in
       let r = length-reverse (map (λ (w : Worker L J). w.lane) old) in
-      keeps_at k l (omega arith) (pick old k (omega arith))
+      keeps_at k l (omega arith) (pick old k (omega arith)).0

@@ -1,5 +1,5 @@
 -- What the sorted outcomes of all lanes say.
-use Rattle.std.proofs.Common.{◌≡◌, ◌⊎◌, ℕ, zero, suc, ◌+◌, ◌<◌, ◌≤◌, ◌==◌, nat_le, cond, min, true, Some, None, Result, Ok, Err, List, [], ◌∷◌, ◌++◌, map, length, get_or, Contains, IsErr, IsPermutation, refl, sym, ap, ◌∙◌, subst, inl, inr, ⊎_elim, length-append, zero-le, true≢false, arith}
+use Rattle.std.proofs.Common.{◌≡◌, ◌≢◌, ◌⊎◌, ℕ, zero, suc, ◌+◌, ◌<◌, ◌≤◌, ◌==◌, nat_le, cond, min, true, Some, None, Result, Ok, Err, List, [], ◌∷◌, ◌++◌, map, length, get_or, Contains, IsErr, IsPermutation, refl, sym, ap, ◌∙◌, subst, inl, inr, ⊎_elim, length-append, zero-le, true≢false, arith}
 use Rattle.std.specs.Prelude.{slice_get}
 use Rattle.std.proofs.Common.{Vec, Global, MatchResult}
 use Rattle.std.specs.List.Sorted.{IsNonDecreasingBy}
@@ -16,16 +16,17 @@ use Rattle.copy_workers.specs.declared.receipt.Outcome.{Outcome}
 use Rattle.copy_workers.specs.Receipts.{Issued}
 use Rattle.copy_workers.specs.declared.receipt.JobFault.{JobFault}
 use Rattle.copy_workers.specs.Lanes.{Lore, EndsAs}
+use Rattle.copy_workers.specs.Answers.{Failed}
 use Rattle.copy_workers.specs.Jobs.{AreJobs}
 use Rattle.copy_workers.specs.Works.{ended, Stopped}
 use Rattle.copy_workers.specs.Outcomes.{outcome_of, failure, IsFirstFault}
 use Rattle.copy_workers.specs.Secured.{IsSecuredBy, AreSecured, Succeeded, IsLeastFault}
-use Rattle.copy_workers.specs.Gathered.{InOrder, between, Gathered}
+use Rattle.copy_workers.specs.Gathered.{InOrder, Gathered}
 use Rattle.copy_workers.proofs.Ordering.{in_order, at_place, ascends}
-use Rattle.copy_workers.proofs.Working.{any_default}
+use Rattle.copy_workers.proofs.Working.{any_default, pick}
 
-counts_between : (job most draws x : ℕ) → x ≡ cond (nat_le job most) (once_to draws job) 0 → x ≡ between 0 (min draws most) job
-counts_between job most draws x e = grind (arith, nat_tests)
+counts_once : (job most draws x : ℕ) → x ≡ cond (nat_le job most) (once_to draws job) 0 → x ≡ once_to (min draws most) job
+counts_once job most draws x e = grind (arith, nat_tests)
 
 pub by_result : {P P' : List Issued → Type 0} {Q Q' : JobFault → Type 0} (r : Result (Vec Issued Global) JobFault) → ((rs : List Issued) → P rs → P' rs) → ((f : JobFault) → Q f → Q' f)
     → MatchResult r (λ all. P all.items) Q → MatchResult r (λ all. P' all.items) Q'
@@ -33,8 +34,8 @@ by_result (Ok rs) p q h = p rs.items h
 by_result (Err f) p q h = q f h
 
 -- what the gathered outcomes count
-pub counted : {L O : Type 0} (tells : Lore L O) (jobs : List Job) (lanes : List L) (all : List Outcome) (v : View) → Gathered tells jobs lanes all v → (drawn : AreDrawn (length jobs) v) → (job : ℕ) → ended job all ≡ between 0 (min drawn.draws (length jobs)) job
-counted tells jobs lanes all v gathered drawn job = counts_between job (length jobs) drawn.draws (ended job all) (gathered.drawn job ∙ ap (λ x. cond (nat_le job (length jobs)) x 0) (drawn.once job))
+pub counted : {L O : Type 0} (tells : Lore L O) (jobs : List Job) (lanes : List L) (all : List Outcome) (v : View) → Gathered tells jobs lanes all v → (drawn : AreDrawn (length jobs) v) → (job : ℕ) → ended job all ≡ once_to (min drawn.draws (length jobs)) job
+counted tells jobs lanes all v gathered drawn job = counts_once job (length jobs) drawn.draws (ended job all) (gathered.drawn job ∙ ap (λ x. cond (nat_le job (length jobs)) x 0) (drawn.once job))
 
 -- a lane that is found by its number is one of them
 found : {L : Type 0} (lanes : List L) (k : ℕ) (l : L) → slice_get lanes k ≡ Some l → Contains lanes l
@@ -57,11 +58,6 @@ front [] tail k h = absurd (omega arith)
 front (r ∷ before) tail zero h = (r, λ o. refl)
 front (r ∷ before) tail (suc k) h = front before tail k (omega arith)
 
-pick : {A : Type 0} (xs : List A) (k : ℕ) → k < length xs → (x : A) × (slice_get xs k ≡ Some x)
-pick [] k h = absurd (omega arith)
-pick (x ∷ xs) zero h = (x, refl)
-pick (x ∷ xs) (suc k) h = pick xs k (omega arith)
-
 module _ {L O : Type 0} (tells : Lore L O) (jobs : List Job) (lanes : List L) (all sorted : List Outcome) (v : View) where
   -- what is known of the outcomes in the order of their jobs
   pub record Ready : Type 0 where
@@ -76,7 +72,7 @@ module _ {L O : Type 0} (tells : Lore L O) (jobs : List Job) (lanes : List L) (a
   -- the outcomes of a desk's jobs, once sorted
   pub ready_of_desk : AreJobs jobs → Gathered tells jobs lanes all v → AreDrawn (length jobs) v → SawFailed v → Stopped v → IsPermutation all sorted → IsNonDecreasingBy (λ o. o.job) sorted → Ready
   ready_of_desk are gathered drawn saw stopped same rises =
-      let order = in_order sorted 0 (min drawn.draws (length jobs)) zero-le
+      let order = in_order sorted (min drawn.draws (length jobs))
       (ascends sorted 0 (λ k d h. zero-le) (λ k d h. rises k (k + 1) d (omega arith) h))
       (λ job. sum_by-IsPermutation (λ (o : Outcome). cond (o.job == job) 1 0) all sorted same ∙ counted tells jobs lanes all v gathered drawn job) in
       let len = order.1 in
@@ -109,6 +105,20 @@ module _ {L O : Type 0} (tells : Lore L O) (jobs : List Job) (lanes : List L) (a
       count = let e = ap length is in let m = len_map rs in
           ⊎_elim (λ (l : length sorted ≡ length jobs). omega arith) (λ (bad : (o : Outcome) × Contains all o × IsErr o.end). absurd (no_err bad.0 bad.1 bad.2)) r.ended
 
+      alone : (k : ℕ) (rc : Issued) (m : ℕ) (l : L) (j : Job) → k < length jobs → get_or sorted k (outcome_of rc) ≡ outcome_of rc → slice_get lanes m ≡ Some l → m ≢ rc.lane → tells.asked l (get_or jobs k j) ≡ []
+      alone k rc m l j lk here at ne = ⊎_elim
+          (λ (none : tells.asked l (get_or jobs k j) ≡ []). none)
+          (λ (one : (o : Outcome) × Contains all o × (o.job ≡ (get_or jobs k j).number) × (o.lane ≡ m)).
+          let s = r.to one.0 one.1 in
+          let placed = at_place sorted 0 s.0 one.0 r.ordered s.1 in
+          let job : one.0.job ≡ 0 + s.0 + 1 = ap (λ (y : Outcome). y.job) (sym s.2) ∙ placed in
+          let n = r.are.numbered k j lk in
+          let b = one.2 in
+          let ik : s.0 ≡ k = omega arith in
+          let same : one.0 ≡ outcome_of rc = sym s.2 ∙ ap (λ i. get_or sorted i one.0) ik ∙ any_default sorted k one.0 (outcome_of rc) (subst (λ i. i < length sorted) ik s.1) ∙ here in
+          absurd (ne (sym one.3 ∙ ap (λ (y : Outcome). y.lane) same)))
+          (r.gathered.asked m l (get_or jobs k j) at (k, lk, any_default jobs k _ _ lk))
+
       each : (k : ℕ) (x : Issued) (j : Job) → k < length jobs → IsSecuredBy tells jobs lanes (get_or rs k x) (get_or jobs k j)
       each k x j lk =
           let rc = get_or rs k x in
@@ -120,7 +130,7 @@ module _ {L O : Type 0} (tells : Lore L O) (jobs : List Job) (lanes : List L) (a
           let at = at_place sorted 0 k o r.ordered ls in
           let n = r.are.numbered k j lk in
           let same : o.job ≡ 0 + k + 1 = ap (λ (y : Outcome). y.job) (sym here) ∙ at in
-          record { job = omega arith; on = t.0; lane = t.1; told = t.2.0 }
+          record { job = omega arith; on = t.0; lane = t.1; told = t.2.0; asked = t.2.2; alone = λ m l at ne. alone k rc m l j lk here at ne }
 
       no_failure : (l : L) (j : Job) → Contains lanes l → Contains jobs j → tells.failed l j ≡ None
       no_failure l j hl hj = ⊎_elim (λ (n : tells.failed l j ≡ None). n) (λ (e : (o : Outcome) × Contains all o × (o.job ≡ j.number) × IsErr o.end). absurd (no_err e.0 e.1 e.3)) (r.gathered.blame l j hl hj)
@@ -144,7 +154,8 @@ module _ {L O : Type 0} (tells : Lore L O) (jobs : List Job) (lanes : List L) (a
         at = job.1;
         on = t.0;
         lane = found lanes f.lane t.0 t.1;
-        cause = ap (tells.failed t.0) (sym (get_or_from_slice_get jobs place job.0 job.0 job.1)) ∙ t.2;
+        cause = ap (tells.failed t.0) (sym (get_or_from_slice_get jobs place job.0 job.0 job.1)) ∙ t.2.0;
+        asked = subst (λ (j : Job). Failed (tells.asked t.0 j)) (get_or_from_slice_get jobs place job.0 job.0 job.1) t.2.1;
         lower = lower;
       }
     where
@@ -164,6 +175,8 @@ module _ {L O : Type 0} (tells : Lore L O) (jobs : List Job) (lanes : List L) (a
             on = t.0;
             lane = found lanes o.lane t.0 t.1;
             told = subst (tells.secured t.0) is_j t.2.0;
+            how = x.0.how;
+            asked = ap (tells.asked t.0) (sym is_j) ∙ t.2.2;
             quiet = λ i d li. let l = get_or lanes i d in
                 ⊎_elim (λ (none : tells.failed l j ≡ None). none)
                 (λ (bad : (p : Outcome) × Contains all p × (p.job ≡ j.number) × IsErr p.end).

@@ -1,7 +1,8 @@
 -- One more job on a lane keeps what is said of its outcomes.
-use Rattle.std.proofs.Common.{◌≡◌, ◌≢◌, ℕ, zero, suc, ◌+◌, ◌<◌, ◌≤◌, ◌==◌, nat_le, cond, None, Result, Ok, Err, List, [], ◌∷◌, ◌++◌, length, get_or, Contains, IsErr, refl, sym, ap, ◌∙◌, subst, inl, inr, ⊎_elim, eq-zero-or-pos, arith}
+use Rattle.std.proofs.Common.{◌≡◌, ◌≢◌, ℕ, zero, suc, ◌+◌, ◌<◌, ◌≤◌, ◌==◌, nat_le, cond, Some, None, Result, Ok, Err, List, [], ◌∷◌, ◌++◌, length, get_or, Contains, IsErr, refl, sym, ap, ◌∙◌, subst, inl, inr, ⊎_elim, eq-zero-or-pos, arith}
+use Rattle.std.specs.Prelude.{slice_get}
 use Rattle.std.proofs.lemmas.List.Sums.{sum_by_push, sum_by-cons}
-use Rattle.std.proofs.lemmas.List.Elements.{Contains-push_cases, Contains-push, Contains-append_left}
+use Rattle.std.proofs.lemmas.List.Elements.{All-contains, Contains-push_cases, Contains-push, Contains-append_left}
 use Rattle.std.proofs.lemmas.Bool.Decides.{nat_tests}
 use native.Mathlib.Decide.{dec_le}
 use Rattle.location_cache.specs.declared.view.View.{View}
@@ -10,7 +11,8 @@ use Rattle.digest_reader.specs.declared.job.Job.{Job}
 use Rattle.copy_workers.specs.declared.cause.Cause.{Cause}
 use Rattle.copy_workers.specs.declared.receipt.How.{How}
 use Rattle.copy_workers.specs.declared.receipt.Outcome.{Outcome}
-use Rattle.copy_workers.specs.Lanes.{Lore, Calm, EndsAs, Keeps}
+use Rattle.copy_workers.specs.Lanes.{Lore, EndsAs, Keeps, IsUnused}
+use Rattle.copy_workers.specs.Answers.{Failed}
 use Rattle.copy_workers.specs.Jobs.{AreJobs}
 use Rattle.copy_workers.specs.Works.{ended, DrewOne, DrewPast, IsFresh, Works, Ends}
 
@@ -18,6 +20,12 @@ pub any_default : {A : Type 0} (xs : List A) (k : ℕ) (a b : A) → k < length 
 any_default [] k a b h = absurd (omega arith)
 any_default (x ∷ xs) zero a b h = refl
 any_default (x ∷ xs) (suc k) a b h = any_default xs k a b (omega arith)
+
+-- what stands at a place
+pub pick : {A : Type 0} (xs : List A) (k : ℕ) → k < length xs → (x : A) × (slice_get xs k ≡ Some x)
+pick [] k h = absurd (omega arith)
+pick (x ∷ xs) zero h = (x, refl)
+pick (x ∷ xs) (suc k) h = pick xs k (omega arith)
 
 -- the job at a place is known by its number
 pub job_at : (jobs : List Job) (i k : ℕ) (a b : Job) → AreJobs jobs → i < length jobs → k < length jobs → a ≡ get_or jobs i a → b ≡ get_or jobs k b → a.number ≡ b.number → a ≡ b
@@ -45,12 +53,15 @@ hit a b e = grind (arith, nat_tests)
 zero_within : (m most x : ℕ) → x ≡ 0 → 0 ≡ cond (nat_le m most) x 0
 zero_within m most x e = grind (arith, nat_tests)
 
+pub ended-cons : (job : ℕ) (o : Outcome) (os : List Outcome) → ended job (o ∷ os) ≡ cond (o.job == job) 1 0 + ended job os
+ended-cons job o os = sum_by-cons (λ (y : Outcome). cond (y.job == job) 1 0) o os
+
 has_ended_at : (outcomes : List Outcome) (k : ℕ) (o : Outcome) → k < length outcomes → get_or outcomes k o ≡ o → 0 < ended o.job outcomes
 has_ended_at [] k o h e = absurd (omega arith)
 has_ended_at (x ∷ xs) zero o h e =
     let here = hit x.job o.job (ap (λ (y : Outcome). y.job) e) in
-    omega (arith, sum_by-cons (λ (y : Outcome). cond (y.job == o.job) 1 0) x xs)
-has_ended_at (x ∷ xs) (suc k) o h e = let r = has_ended_at xs k o (omega arith) e in omega (arith, sum_by-cons (λ (y : Outcome). cond (y.job == o.job) 1 0) x xs)
+    omega (arith, ended-cons o.job x xs)
+has_ended_at (x ∷ xs) (suc k) o h e = let r = has_ended_at xs k o (omega arith) e in omega (arith, ended-cons o.job x xs)
 
 -- what stands in a list has ended
 pub has_ended : (outcomes : List Outcome) (o : Outcome) → Contains outcomes o → 0 < ended o.job outcomes
@@ -76,12 +87,12 @@ not_this n job before now is none = grind (arith, nat_tests)
 
 module _ {L O : Type 0} (tells : Lore L O) where
   ends_kept : (job other : Job) (old new : L) (end : Result How Cause) → Keeps tells job old new → other.digest ≢ job.digest → EndsAs tells old other end → EndsAs tells new other end
-  ends_kept job other old new (Ok how) keeps ne e = (keeps.stays other ne e.0, keeps.fails other ne ∙ e.1)
-  ends_kept job other old new (Err cause) keeps ne e = keeps.fails other ne ∙ e
+  ends_kept job other old new (Ok how) keeps ne e = ((keeps.stays other ne).0 e.0, keeps.fails other ne ∙ e.1, keeps.asks other ne ∙ e.2)
+  ends_kept job other old new (Err cause) keeps ne e = (keeps.fails other ne ∙ e.0, subst Failed (sym (keeps.asks other ne)) e.1)
 
   module _ (jobs : List Job) (job : Job) (n k : ℕ) (lane : L) (outcomes : List Outcome) (v : View) where
-    -- a job that was not drawn before has not failed
-    pub is_fresh : AreJobs jobs → Works tells jobs lane outcomes v → n ≡ k + 1 → k < length jobs → job ≡ get_or jobs k job → ((earlier : ℕ) → 0 < times earlier v.drawn → earlier < n) → tells.failed lane job ≡ None
+    -- a job that was not drawn before has not failed, and the lane was not asked for it
+    pub is_fresh : AreJobs jobs → Works tells jobs lane outcomes v → n ≡ k + 1 → k < length jobs → job ≡ get_or jobs k job → ((earlier : ℕ) → 0 < times earlier v.drawn → earlier < n) → (tells.failed lane job ≡ None) × (tells.asked lane job ≡ [])
     is_fresh are works nk lk is greater =
         let jn : job.number ≡ k + 1 = ap (λ (j : Job). j.number) is ∙ are.numbered k job lk in
         let le = at_most_drawn job.number (length jobs) (times job.number v.drawn) (ended job.number outcomes) (works.drawn job.number) in
@@ -109,7 +120,9 @@ module _ {L O : Type 0} (tells : Lore L O) where
           quiet = λ j hj none.
               let t = not_this o.job j.number (ended j.number outcomes) (ended j.number after) (ap (ended j.number) ends.added ∙ ended_push j.number outcomes o) none in
               let ne : j.number ≢ job.number = (λ e. t.1 (ends.job_is ∙ sym e)) in
-              ends.kept.fails j (other_digest jobs j job are hj here ne) ∙ works.quiet j hj t.0;
+              let other = other_digest jobs j job are hj here ne in
+              let q = works.quiet j hj t.0 in
+              (ends.kept.fails j other ∙ q.0, ends.kept.asks j other ∙ q.1);
           drawn = λ m.
               ap (ended m) ends.added ∙ ended_push m outcomes o ∙ ap (λ x. ended m outcomes + cond (x == m) 1 0) oj
               ∙ drawn_more m n (length jobs) (ended m outcomes) (times m v.drawn) (omega arith) (works.drawn m)
@@ -126,10 +139,10 @@ module _ {L O : Type 0} (tells : Lore L O) where
           | inr err ↦ (ends.outcome, subst (λ l. Contains l ends.outcome) (sym ends.added) (Contains-push outcomes ends.outcome), err.0)
         ]
 
-  pub works_none : (jobs : List Job) (lane : L) (v : View) → IsFresh v → Calm tells lane → Works tells jobs lane [] v
-  works_none jobs lane v fresh quiet = record {
+  pub works_none : (jobs : List Job) (lane : L) (v : View) → IsFresh v → IsUnused tells jobs lane → Works tells jobs lane [] v
+  works_none jobs lane v fresh unused = record {
     told = λ o j ho. absurd (let l = ho.1 in omega arith);
-    quiet = λ j hj none. quiet j;
+    quiet = λ j hj none. (unused.calm j, All-contains (λ j. tells.asked lane j ≡ []) jobs j unused.unasked hj);
     drawn = λ m. zero_within m (length jobs) (times m v.drawn) (ap (times m) fresh.drawn);
     fails = λ m h. absurd (let e = ap (times m) fresh.failed in omega arith);
   }

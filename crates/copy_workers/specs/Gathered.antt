@@ -1,15 +1,11 @@
 -- The outcomes of all lanes, before they are put in order.
-use Rattle.std.specs.Prelude.{◌≡◌, ◌⊎◌, ℕ, ◌+◌, ◌<◌, nat_le, nat_lt, cond, Some, None, List, [], ◌∷◌, length, slice_get, Contains, IsErr}
+use Rattle.std.specs.Prelude.{◌≡◌, ◌⊎◌, ℕ, ◌+◌, ◌<◌, nat_le, cond, Some, None, List, [], ◌∷◌, length, slice_get, Contains, IsErr}
 use Rattle.digest_reader.specs.declared.job.Job.{Job}
 use Rattle.location_cache.specs.declared.view.View.{View}
 use Rattle.location_cache.specs.Rule.{times}
 use Rattle.copy_workers.specs.declared.receipt.Outcome.{Outcome}
 use Rattle.copy_workers.specs.Lanes.{Lore, EndsAs}
 use Rattle.copy_workers.specs.Works.{ended}
-
--- 1 of each job above k, up to m
-abbrev pub between : ℕ → ℕ → ℕ → ℕ
-between k m job = cond (nat_lt k job) (cond (nat_le job m) 1 0) 0
 
 -- the outcomes are those of the jobs from k + 1 on, in order
 abbrev pub InOrder : ℕ → List Outcome → Type 0
@@ -22,5 +18,7 @@ pub record Gathered {L O : Type 0} (tells : Lore L O) (jobs : List Job) (lanes :
       → (l : L) × (slice_get lanes o.lane ≡ Some l) × EndsAs tells l j o.end
   pub blame : (l : L) (j : Job) → Contains lanes l → Contains jobs j
       → (tells.failed l j ≡ None) ⊎ ((o : Outcome) × Contains outcomes o × (o.job ≡ j.number) × IsErr o.end)
+  pub asked : (m : ℕ) (l : L) (j : Job) → slice_get lanes m ≡ Some l → Contains jobs j
+      → (tells.asked l j ≡ []) ⊎ ((o : Outcome) × Contains outcomes o × (o.job ≡ j.number) × (o.lane ≡ m))
   pub drawn : (job : ℕ) → ended job outcomes ≡ cond (nat_le job (length jobs)) (times job v.drawn) 0
   pub fails : (job : ℕ) → 0 < times job v.failed → (o : Outcome) × Contains outcomes o × IsErr o.end

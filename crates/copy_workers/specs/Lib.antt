@@ -1,4 +1,6 @@
 pub mod Receipts
+pub mod Answers
+pub mod Asked
 pub mod Jobs
 pub mod Lanes
 pub mod Kept

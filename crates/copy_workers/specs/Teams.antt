@@ -6,7 +6,7 @@ use Rattle.std.specs.Prelude.{Vec}
 use Rattle.std.specs.declared.alloc.Global.{Global}
 use Rattle.copy_workers.specs.declared.receipt.Outcome.{Outcome}
 use Rattle.copy_workers.specs.declared.worker.Worker.{Worker}
-use Rattle.copy_workers.specs.Lanes.{Lore, Calm}
+use Rattle.copy_workers.specs.Lanes.{Lore, IsUnused}
 use Rattle.copy_workers.specs.Works.{IsFresh, Stopped, Works}
 use Rattle.copy_workers.specs.Kept.{KeepsAll}
 
@@ -17,7 +17,7 @@ module _ {L J O : Type 0} (tells : Lore L O) where
     pub room : length jobs ≤ vec_capacity w.outcomes
     pub seat : IsFresh w.seat.view
     pub empty : w.outcomes.items ≡ []
-    pub calm : Calm tells w.lane
+    pub unused : IsUnused tells jobs w.lane
 
   -- the worker has stopped, and its outcomes are those of the jobs that it drew
   pub record HasWorked (desk : TableId) (jobs : List Job) (old new : Worker L J) : Type 0 where
@@ -62,9 +62,9 @@ pub record HasRoom (n : ℕ) (outcomes : Vec Outcome Global) : Type 0 where
   pub empty : outcomes.items ≡ []
   pub room : n ≤ vec_capacity outcomes
 
--- no lane tells a failure
-abbrev pub AreCalm : {L O : Type 0} → Lore L O → List L → Type 0
-AreCalm tells lanes = All (Calm tells) lanes
+-- no lane tells a failure or was asked for one of the jobs
+abbrev pub AreUnused : {L O : Type 0} → Lore L O → List Job → List L → Type 0
+AreUnused tells jobs lanes = All (IsUnused tells jobs) lanes
 
 -- the last lane and the last list became the last worker
 pub record Hires {L J : Type 0} (seat : Seated) (lanes kept : List L) (lists rest : List (Vec Outcome Global)) (workers after : List (Worker L J)) : Type 0 where

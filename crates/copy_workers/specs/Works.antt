@@ -36,7 +36,8 @@ module _ {L O : Type 0} (tells : Lore L O) where
   pub record Works (jobs : List Job) (lane : L) (outcomes : List Outcome) (v : View) : Type 0 where
     pub told : (o : Outcome) (j : Job) → Contains outcomes o → Contains jobs j → j.number ≡ o.job
         → EndsAs tells lane j o.end
-    pub quiet : (j : Job) → Contains jobs j → ended j.number outcomes ≡ 0 → tells.failed lane j ≡ None
+    pub quiet : (j : Job) → Contains jobs j → ended j.number outcomes ≡ 0
+        → (tells.failed lane j ≡ None) × (tells.asked lane j ≡ [])
     pub drawn : (job : ℕ) → ended job outcomes ≡ cond (nat_le job (length jobs)) (times job v.drawn) 0
     pub fails : (job : ℕ) → 0 < times job v.failed → (o : Outcome) × Contains outcomes o × IsErr o.end
 

@@ -8,17 +8,22 @@ use skopeo_outside::{Many, Memory, Step, Text, What};
 /// A blob of another digest or length than its job. Sizes and lengths are in bytes.
 #[derive(Clone, Copy, Debug, PartialEq, Eq)]
 pub struct BlobMismatch {
+    /// The job's digest.
     pub expected: Digest,
+    /// The job's size.
     pub size: u64,
+    /// The digest of the bytes that came.
     pub found: Digest,
+    /// How many came.
     pub length: u64,
 }
 
 /// Why a job failed. A count of faults is that of the job's lane at the end of the call that failed.
 #[derive(Debug, Drop)]
 pub enum Cause {
-    /// The host is not insecure, or a redirect names `https`.
+    /// The host, which may not be reached without TLS, or which a redirect names with `https`.
     TlsRequired(Text),
+    /// The bytes of the blob have another digest or length.
     BlobMismatch(BlobMismatch),
     /// The source has no such blob.
     BlobAbsent(Digest),
@@ -32,11 +37,13 @@ pub enum Cause {
     SourceRefused(Step, u16),
     /// The answer of the step has a content encoding.
     Encoded(Step),
+    /// The step was redirected more often than it may be.
     TooManyRedirects(Step),
     /// The count of faults of the lane's wire.
     Wire(u64),
     /// The count of faults of the lane's files.
     Files(u64),
+    /// There was no memory.
     Memory,
 }
 

@@ -2,14 +2,16 @@
 ghost use Rattle.std.specs.Prelude.{◌≡◌, ◌⊎◌, ◌∷◌, ◌++◌, [], Some, OnOk, OnErr, IfOk, IfErr, IsTrue};
 ghost use Rattle.std.specs.Option.{option_map};
 ghost use Rattle.image_ref.specs.Reference.{IsPath};
+ghost use Rattle.copy_workers.specs.Answers.{had, mounted, carried};
 ghost use Rattle.copy_workers.specs.Lanes.{Lore, Calm, Keeps, WasNamed};
 
 use crate::cause::Cause;
 use digest_reader::Job;
 
-/// A lane, which does one job at a time. It tells of each job whether it is secured, whether and why it has failed, and
-/// which repositories its mounts named; and it tells its target and its origin. A lane is asked for a job only while it is
-/// calm, which is while it tells no failure: so a failure stays told, and no lane has to keep more than one.
+/// A lane, which does one job at a time. It tells of each job whether it is secured, whether and why it has failed, which
+/// repositories its mounts named, and what it answered when it was asked for it; and it tells its target and its origin. A
+/// lane is asked for a job only while it is calm, which is while it tells no failure: so a failure stays told, and no lane
+/// has to keep more than one. What it answered it can keep as an `Asked`, which takes no memory.
 pub trait BlobLane {
     /// What a lane keeps from when it was made. Contracts alone see it.
     type Origin;
@@ -27,6 +29,7 @@ pub trait BlobLane {
         ensures failed { IfErr result (λ cause. tells.failed self.new job.now ≡ Some cause) }
         ensures calm { OnOk result (Calm tells self.new) }
         ensures named { tells.named self.new job.now ≡ tells.named self.old job.now }
+        ensures asked { tells.asked self.new job.now ≡ tells.asked self.old job.now ++ had result ∷ [] }
         ensures kept { Keeps tells job.now self.old self.new };
 
     /// Asks the registry to mount the job's blob from another repository there; false where it declined.
@@ -39,6 +42,7 @@ pub trait BlobLane {
         ensures named { OnOk result (WasNamed tells job.now from.now self.old self.new) }
         ensures refused { OnErr result ((tells.named self.new job.now ≡ tells.named self.old job.now)
             ⊎ WasNamed tells job.now from.now self.old self.new) }
+        ensures asked { tells.asked self.new job.now ≡ tells.asked self.old job.now ++ mounted result ∷ [] }
         ensures kept { Keeps tells job.now self.old self.new };
 
     /// Carries the job's blob from the source to the destination.
@@ -48,5 +52,6 @@ pub trait BlobLane {
         ensures failed { IfErr result (λ cause. tells.failed self.new job.now ≡ Some cause) }
         ensures calm { OnOk result (Calm tells self.new) }
         ensures named { tells.named self.new job.now ≡ tells.named self.old job.now }
+        ensures asked { tells.asked self.new job.now ≡ tells.asked self.old job.now ++ carried result ∷ [] }
         ensures kept { Keeps tells job.now self.old self.new };
 }

@@ -1,6 +1,7 @@
 //! Jobs over one to sixteen lanes: receipts for all exactly where no job failed, else the least job that failed.
 #![tactic(auto)]
 
+mod asked;
 mod cause;
 mod conclude;
 mod finish;
@@ -14,6 +15,7 @@ mod staff;
 mod team;
 mod worker;
 
+pub use asked::{Asked, LaneAnswer};
 pub use cause::{BlobMismatch, Cause};
 pub use lane::BlobLane;
 pub use receipt::{Done, How, JobFault, Receipt};

@@ -1,6 +1,6 @@
 // All jobs on one lane.
 ghost use Rattle.std.specs.Prelude.{◌≡◌, ◌≤◌, [], take, length, vec_capacity};
-ghost use Rattle.copy_workers.specs.Lanes.{Calm};
+ghost use Rattle.copy_workers.specs.Lanes.{IsUnused};
 ghost use Rattle.copy_workers.specs.Kept.{KeepsAll};
 ghost use Rattle.copy_workers.specs.Jobs.{AreJobs};
 ghost use Rattle.copy_workers.specs.Plain.{HasDone};
@@ -13,7 +13,7 @@ use digest_reader::Job;
 /// Does the jobs in order, up to the first that fails.
 pub(crate) fn run_plain<L: BlobLane>(jobs: &[Job], lane: &mut L, outcomes: &mut Vec<Outcome>)
     requires jobs { AreJobs jobs.now }
-    requires calm { Calm L.tells lane.old }
+    requires unused { IsUnused L.tells jobs.now lane.old }
     requires empty { outcomes.old.items ≡ [] }
     requires room { length jobs.now ≤ vec_capacity outcomes.old }
     ensures done { HasDone L.tells jobs.now lane.new outcomes.new.items }

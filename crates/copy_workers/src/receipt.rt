@@ -6,11 +6,14 @@ use location_cache::Cache;
 use skopeo_outside::Many;
 use std::marker::Model;
 
-/// How a job was secured: it was there, it was mounted from another repository, or it was carried.
+/// How a job was secured.
 #[derive(Clone, Copy, Debug, PartialEq, Eq)]
 pub enum How {
+    /// The destination had the blob.
     Present,
+    /// It was mounted there from another repository.
     Mounted,
+    /// It was carried there from the source.
     Carried,
 }
 
@@ -53,6 +56,7 @@ impl Receipt {
         self.lane
     }
 
+    /// How its lane secured it, which is what the lane answered.
     pub fn how(&self) -> How
         ensures { result ≡ self.now.how }
     {
@@ -63,13 +67,17 @@ impl Receipt {
 /// The least job that failed, by its number from 1, and why. Job 0 is want of memory before a lane was used.
 #[derive(Debug, Drop)]
 pub struct JobFault {
+    /// The job's number.
     pub job: u32,
+    /// What a lane tells of the job.
     pub cause: Cause,
 }
 
 /// What running all jobs comes to: receipts in the order of the jobs, or the least job that failed; and the cache.
 #[derive(Drop)]
 pub struct Done {
+    /// A receipt for each job, in their order, or the least job that failed.
     pub outcome: Result<Many<Receipt>, JobFault>,
+    /// The cache that was handed in.
     pub cache: Cache,
 }

@@ -2,7 +2,7 @@
 ghost use Rattle.std.specs.Prelude.{◌≡◌, ◌-◌, ◌^◌, ◌<◌, ◌≤◌, All, IfOk, IfErr, OnErr, MatchResult, length, vec_len, vec_capacity};
 ghost use Rattle.copy_workers.specs.Kept.{EachKeeps};
 ghost use Rattle.copy_workers.specs.Jobs.{AreJobs};
-ghost use Rattle.copy_workers.specs.Teams.{HasRoom, AreCalm};
+ghost use Rattle.copy_workers.specs.Teams.{HasRoom, AreUnused};
 ghost use Rattle.copy_workers.specs.Secured.{AreNames, AreLanes, AreSecured, IsLeastFault, IsJobFault, OnlyAsked};
 
 use crate::cause::Cause;
@@ -45,7 +45,7 @@ fn run_at_desk<R: Threads + Sync, L: BlobLane + Send, J: Jobs + Send + Sync>(
     requires named { length jobs.now ≡ J.jobs }
     requires jobs { AreJobs jobs.now × (length jobs.now < 2 ^ 32 - 16) }
     requires lanes { (0 < vec_len lanes.old) × (vec_len lanes.old ≤ 16) }
-    requires calm { AreCalm L.tells lanes.old.items }
+    requires unused { AreUnused L.tells jobs.now lanes.old.items }
     ensures count { vec_len lanes.new ≡ vec_len lanes.old }
     ensures outcome { IfOk result (λ end. MatchResult end
         (λ receipts. AreSecured L.tells jobs.now lanes.new.items receipts.items)
@@ -72,7 +72,7 @@ fn run_alone<L: BlobLane>(
 ) -> Result<Result<Vec<Receipt>, JobFault>, Memory>
     requires jobs { AreJobs jobs.now }
     requires one { length lanes.old.items ≡ 1 }
-    requires calm { AreCalm L.tells lanes.old.items }
+    requires unused { AreUnused L.tells jobs.now lanes.old.items }
     ensures count { length lanes.new.items ≡ 1 }
     ensures outcome { IfOk result (λ end. MatchResult end
         (λ receipts. AreSecured L.tells jobs.now lanes.new.items receipts.items)
@@ -100,7 +100,7 @@ fn run_jobs<R: Threads + Sync, L: BlobLane + Send>(
 ) -> Result<Result<Vec<Receipt>, JobFault>, Memory>
     requires jobs { AreJobs jobs.now × (length jobs.now < 2 ^ 32 - 16) }
     requires lanes { (0 < vec_len lanes.old) × (vec_len lanes.old ≤ 16) }
-    requires calm { AreCalm L.tells lanes.old.items }
+    requires unused { AreUnused L.tells jobs.now lanes.old.items }
     ensures count { vec_len lanes.new ≡ vec_len lanes.old }
     ensures outcome { IfOk result (λ end. MatchResult end
         (λ receipts. AreSecured L.tells jobs.now lanes.new.items receipts.items)

@@ -3,7 +3,7 @@ ghost use Rattle.std.specs.Prelude.{◌≡◌, ◌≤◌, ℕ, vec_len, vec_capa
 ghost use Rattle.std.specs.List.Sorted.{IsNonDecreasingBy};
 ghost use Rattle.copy_workers.specs.declared.receipt.Outcome.{Outcome};
 ghost use Rattle.copy_workers.specs.Works.{ended};
-ghost use Rattle.copy_workers.specs.Gathered.{between};
+ghost use Rattle.location_cache.specs.Rule.{once_to};
 ghost use Rattle.copy_workers.specs.Outcomes.{outcome_of, IsFirstFault};
 
 use crate::conclude::conclude;
@@ -16,7 +16,7 @@ pub(crate) fn settle(
 ) -> Result<Vec<Receipt>, JobFault>
     requires empty { vec_len receipts ≡ 0 }
     requires once { (last : ℕ) × (last ≤ vec_capacity receipts)
-        × ((job : ℕ) → ended job outcomes.items ≡ between 0 last job) }
+        × ((job : ℕ) → ended job outcomes.items ≡ once_to last job) }
     ensures { (sorted : List Outcome) × IsPermutation outcomes.items sorted
         × IsNonDecreasingBy (λ o. o.job) sorted
         × MatchResult result (λ all. sorted ≡ map outcome_of all.items) (IsFirstFault sorted) }

@@ -1,7 +1,7 @@
 // Workers made of lanes.
 ghost use Rattle.std.specs.Prelude.{◌≡◌, ◌<◌, ◌≤◌, [], All, length, vec_len, vec_capacity};
 ghost use Rattle.copy_workers.specs.Works.{IsFresh};
-ghost use Rattle.copy_workers.specs.Teams.{IsReady, AreNumbered, HasRoom, AreCalm, Hires, rooms, lanes_of};
+ghost use Rattle.copy_workers.specs.Teams.{IsReady, AreNumbered, HasRoom, AreUnused, Hires, rooms, lanes_of};
 
 use crate::lane::BlobLane;
 use crate::receipt::Outcome;
@@ -21,7 +21,7 @@ pub(crate) fn staff<L: BlobLane, J: Jobs>(
     requires own { first.desk ≡ desk.now }
     requires seat { IsFresh first.view × (first.view.room ≡ 16) }
     requires some { (0 < vec_len lanes.old) × (vec_len lanes.old ≤ 16) }
-    requires calm { AreCalm L.tells lanes.old.items }
+    requires unused { AreUnused L.tells jobs.now lanes.old.items }
     requires lists { (vec_len lists.old ≡ vec_len lanes.old) × All (HasRoom (length jobs.now)) lists.old.items }
     requires room { (vec_len workers.old ≡ 0) × (vec_len lanes.old ≤ vec_capacity workers.old) }
     ensures ready { All (IsReady L.tells desk.now jobs.now) workers.new.items }

@@ -1,7 +1,7 @@
 // A worker: a lane with a seat at the desk.
 ghost use Rattle.std.specs.Prelude.{◌≡◌, ◌<◌, ◌≤◌, [], ℕ, IfSome, IfNone, All, length, vec_len, vec_capacity};
 ghost use Rattle.location_cache.specs.Seats.{HasDrawn, HasFailed};
-ghost use Rattle.copy_workers.specs.Lanes.{Calm};
+ghost use Rattle.copy_workers.specs.Lanes.{Calm, IsUnused};
 ghost use Rattle.copy_workers.specs.Kept.{KeepsAll};
 ghost use Rattle.copy_workers.specs.Jobs.{AreJobs};
 ghost use Rattle.copy_workers.specs.Works.{Stopped, DrewPast, DrewOne, IsFresh, Works, Ends};
@@ -41,6 +41,7 @@ impl<L: BlobLane, J: Jobs> Worker<L, J> {
         requires own { self.old.seat.desk ≡ desk.now }
         requires drew { HasDrawn self.old.seat.view job.now.number }
         requires calm { Calm L.tells self.old.lane }
+        requires unasked { L.tells.asked self.old.lane job.now ≡ [] }
         requires room { vec_len self.old.outcomes < vec_capacity self.old.outcomes }
         ensures own { self.new.seat.desk ≡ desk.now }
         ensures ends { Ends L.tells job.now self.old.number self.old.lane self.new.lane
@@ -67,7 +68,7 @@ impl<L: BlobLane, J: Jobs> Worker<L, J> {
         requires room { length jobs.now ≤ vec_capacity self.old.outcomes }
         requires seat { IsFresh self.old.seat.view }
         requires empty { self.old.outcomes.items ≡ [] }
-        requires calm { Calm L.tells self.old.lane }
+        requires unused { IsUnused L.tells jobs.now self.old.lane }
         ensures own { self.new.seat.desk ≡ desk.now }
         ensures works { Works L.tells jobs.now self.new.lane self.new.outcomes.items self.new.seat.view }
         ensures stopped { Stopped self.new.seat.view }

@@ -5,6 +5,9 @@ pub mod UniqueSizes
 pub mod UniqueChunkParts
 pub mod UniqueChunks
 pub mod UniqueOutcome
+pub mod StableBlocks
+pub mod StableBodies
+pub mod StableOutcome
 pub mod OneHead
 pub mod RequestHeads
 pub mod WriteLaws

@@ -1,17 +1,10 @@
 -- Sent bytes that begin one request have no other head.
-use Rattle.std.proofs.Common.{◌≡◌, ℕ, ◌==◌, ◌<◌, ◌≤◌, ◌+◌, ◌^◌, Bool, true, false, not, ◌&&◌, List, [], ◌∷◌, ◌++◌, length, length-append, codes, Option, Some, None, MatchOption, refl, ap, sym, subst, ◌∙◌, append_assoc, arith}
+use Rattle.std.proofs.Common.{◌≡◌, ℕ, ◌==◌, ◌<◌, ◌≤◌, ◌+◌, ◌^◌, true, not, List, [], ◌∷◌, ◌++◌, length, length-append, codes, Option, Some, None, MatchOption, refl, ap, sym, subst, ◌∙◌, append_assoc, arith}
 use Rattle.std.specs.Prelude.{All}
+use Rattle.std.proofs.lemmas.Bool.{and_parts}
 use Rattle.std.proofs.lemmas.Fmt.{decimal_injective}
 use Rattle.std.specs.Fmt.{decimal}
 use Rattle.http_message.specs.Sent.{is_one_line, is_line, are_lines, with_head, Whole, length_line, Counts, IsWhole, behind, HasHead}
-
-pub and_left : (a b : Bool) → (a && b) ≡ true → a ≡ true
-and_left true b e = refl
-and_left false b e = cc
-
-pub and_right : (a b : Bool) → (a && b) ≡ true → b ≡ true
-and_right true b e = e
-and_right false b e = cc
 
 -- a line with a line feed is no line
 no_feed : (l : List ℕ) → is_one_line (10 ∷ l) ≡ true → ⊥
@@ -30,7 +23,7 @@ not_longer (c ∷ []) x y e h = absurd (ten (tail_is 13 c (10 ∷ x) (13 ∷ 10 
   where
     ten : 10 ∷ x ≡ 13 ∷ 10 ∷ y → ⊥
     ten e = cc
-not_longer (c ∷ d ∷ m) x y e h = absurd (no_feed m (subst (λ (w : ℕ). is_one_line (w ∷ m) ≡ true) (sym d_is) (and_right (not (c == 10)) (is_one_line (d ∷ m)) h)))
+not_longer (c ∷ d ∷ m) x y e h = absurd (no_feed m (subst (λ (w : ℕ). is_one_line (w ∷ m) ≡ true) (sym d_is) (and_parts (not (c == 10)) (is_one_line (d ∷ m)) h).1))
   where
     d_is : 10 ≡ d
     d_is = head_is 10 d x (m ++ (13 ∷ 10 ∷ y)) (tail_is 13 c (10 ∷ x) (d ∷ m ++ (13 ∷ 10 ∷ y)) e)
@@ -39,7 +32,7 @@ line_is : (l m x y : List ℕ) → l ++ (13 ∷ 10 ∷ x) ≡ m ++ (13 ∷ 10 �
 line_is [] m x y e hl hm = let p = not_longer m x y e hm in (sym p.0, p.1)
 line_is (b ∷ l) [] x y e hl hm = let p = not_longer (b ∷ l) y x (sym e) hl in (p.0, sym p.1)
 line_is (b ∷ l) (c ∷ m) x y e hl hm =
-    let p = line_is l m x y (tail_is b c (l ++ (13 ∷ 10 ∷ x)) (m ++ (13 ∷ 10 ∷ y)) e) (and_right (not (b == 10)) (is_one_line l) hl) (and_right (not (c == 10)) (is_one_line m) hm) in
+    let p = line_is l m x y (tail_is b c (l ++ (13 ∷ 10 ∷ x)) (m ++ (13 ∷ 10 ∷ y)) e) (and_parts (not (b == 10)) (is_one_line l) hl).1 (and_parts (not (c == 10)) (is_one_line m) hm).1 in
     let q = head_is b c (l ++ (13 ∷ 10 ∷ x)) (m ++ (13 ∷ 10 ∷ y)) e in
     (ap (λ (w : List ℕ). b ∷ w) p.0 ∙ ap (λ (w : ℕ). w ∷ m) q, p.1)
 
@@ -57,11 +50,11 @@ no_empty_line (b ∷ l) x y e h = empty (not_longer (b ∷ l) x y e h).0
 -- a head ends at its first empty line
 pub head_once : (ls ms : List (List ℕ)) (x y : List ℕ) → with_head ls x ≡ with_head ms y → are_lines ls ≡ true → are_lines ms ≡ true → (ls ≡ ms) × (x ≡ y)
 head_once [] [] x y e hl hm = (refl, cc)
-head_once [] (m ∷ ms) x y e hl hm = absurd (no_empty_line m x (with_head ms y) e (and_left (is_line m) (are_lines ms) hm))
-head_once (l ∷ ls) [] x y e hl hm = absurd (no_empty_line l y (with_head ls x) (sym e) (and_left (is_line l) (are_lines ls) hl))
+head_once [] (m ∷ ms) x y e hl hm = absurd (no_empty_line m x (with_head ms y) e (and_parts (is_line m) (are_lines ms) hm).0)
+head_once (l ∷ ls) [] x y e hl hm = absurd (no_empty_line l y (with_head ls x) (sym e) (and_parts (is_line l) (are_lines ls) hl).0)
 head_once (l ∷ ls) (m ∷ ms) x y e hl hm =
-    let p = line_is l m (with_head ls x) (with_head ms y) e (one_line l (and_left (is_line l) (are_lines ls) hl)) (one_line m (and_left (is_line m) (are_lines ms) hm)) in
-    let q = head_once ls ms x y p.1 (and_right (is_line l) (are_lines ls) hl) (and_right (is_line m) (are_lines ms) hm) in
+    let p = line_is l m (with_head ls x) (with_head ms y) e (one_line l (and_parts (is_line l) (are_lines ls) hl).0) (one_line m (and_parts (is_line m) (are_lines ms) hm).0) in
+    let q = head_once ls ms x y p.1 (and_parts (is_line l) (are_lines ls) hl).1 (and_parts (is_line m) (are_lines ms) hm).1 in
     (ap (λ (w : List ℕ). w ∷ ls) p.0 ∙ ap (λ (w : List (List ℕ)). m ∷ w) q.0, q.1)
 
 -- what comes after a head, and after that

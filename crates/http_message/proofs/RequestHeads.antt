@@ -1,5 +1,6 @@
 -- The heads of the requests that we send.
 use Rattle.std.proofs.Common.{◌≡◌, ◌≢◌, ℕ, zero, suc, ◌==◌, ◌<◌, ◌+◌, ◌%◌, ◌^◌, ◌⊎◌, inl, inr, Bool, true, false, not, ◌&&◌, List, [], ◌∷◌, ◌++◌, codes, Option, Some, None, MatchOption, refl, ap, sym, subst, ◌∙◌, arith, lit<}
+use Rattle.std.proofs.lemmas.Bool.{and_parts, and_from, false_from_ne_true}
 use Rattle.std.proofs.lemmas.Bool.Decides.{nat_tests}
 use Rattle.std.proofs.lemmas.Fmt.{decimal_by_steps, decimal_digit}
 use Rattle.std.specs.Fmt.{decimal}
@@ -8,18 +9,15 @@ use Rattle.std.specs.Char.{is_ascii_uppercase}
 use Rattle.http_message.specs.declared.request.Request.{Request}
 use Rattle.http_message.specs.Sent.{begins, is_one_line, is_line, are_lines, length_line, Counts, puts_manifest, deletes}
 use Rattle.http_message.specs.Requests.{first_line, accept_line, type_line, size_line, lines_of, counted, manifest_types, IsClean, IsManifestPut, OneHead, PutsNone, DeletesNone}
-use Rattle.http_message.proofs.OneHead.{and_left, and_right, only_head}
-
-both : (a b : Bool) → a ≡ true → b ≡ true → (a && b) ≡ true
-both a b p q = ap (λ (x : Bool). x && b) p ∙ q
+use Rattle.http_message.proofs.OneHead.{only_head}
 
 pub one_line-append : (a b : List ℕ) → is_one_line a ≡ true → is_one_line b ≡ true → is_one_line (a ++ b) ≡ true
 one_line-append [] b p q = q
 one_line-append (x ∷ a) b p q =
-    both (not (x == 10)) (is_one_line (a ++ b)) (and_left (not (x == 10)) (is_one_line a) p) (one_line-append a b (and_right (not (x == 10)) (is_one_line a) p) q)
+    and_from (not (x == 10)) (is_one_line (a ++ b)) (and_parts (not (x == 10)) (is_one_line a) p).0 (one_line-append a b (and_parts (not (x == 10)) (is_one_line a) p).1 q)
 
 a_digit : (d : ℕ) → d < 10 → is_one_line ((48 + d) ∷ []) ≡ true
-a_digit d h = both (not (48 + d == 10)) true no refl
+a_digit d h = and_from (not (48 + d == 10)) true no refl
   where
     no : not (48 + d == 10) ≡ true
     no = grind (arith, nat_tests)
@@ -35,8 +33,8 @@ no_capital c h = grind (arith, nat_tests)
 one_line-capitals : (m : List ℕ) → list_all is_ascii_uppercase m ≡ true → is_one_line m ≡ true
 one_line-capitals [] h = refl
 one_line-capitals (c ∷ m) h =
-    both (not (c == 10)) (is_one_line m) (no_capital c (and_left (is_ascii_uppercase c) (list_all is_ascii_uppercase m) h))
-    (one_line-capitals m (and_right (is_ascii_uppercase c) (list_all is_ascii_uppercase m) h))
+    and_from (not (c == 10)) (is_one_line m) (no_capital c (and_parts (is_ascii_uppercase c) (list_all is_ascii_uppercase m) h).0)
+    (one_line-capitals m (and_parts (is_ascii_uppercase c) (list_all is_ascii_uppercase m) h).1)
 
 -- a line that is not empty
 some_line : (m : List ℕ) (c : ℕ) (x : List ℕ) → is_one_line (m ++ (c ∷ x)) ≡ true → is_line (m ++ (c ∷ x)) ≡ true
@@ -51,15 +49,15 @@ first_is_line m x h k =
 are_lines-append : (a b : List (List ℕ)) → are_lines a ≡ true → are_lines b ≡ true → are_lines (a ++ b) ≡ true
 are_lines-append [] b p q = q
 are_lines-append (l ∷ a) b p q =
-    both (is_line l) (are_lines (a ++ b)) (and_left (is_line l) (are_lines a) p) (are_lines-append a b (and_right (is_line l) (are_lines a) p) q)
+    and_from (is_line l) (are_lines (a ++ b)) (and_parts (is_line l) (are_lines a) p).0 (are_lines-append a b (and_parts (is_line l) (are_lines a) p).1 q)
 
 size_lines : (n : Option ℕ) → counted n < 2 ^ 64 → are_lines (size_line n) ≡ true
 size_lines None h = refl
-size_lines (Some n) h = both (is_one_line (decimal n)) true (one_line-decimal n h) refl
+size_lines (Some n) h = and_from (is_one_line (decimal n)) true (one_line-decimal n h) refl
 
 type_lines : (t : Option (List ℕ)) → MatchOption t Unit (λ w. is_one_line w ≡ true) → are_lines (type_line t) ≡ true
 type_lines None h = refl
-type_lines (Some t) h = both (is_one_line t) true h refl
+type_lines (Some t) h = and_from (is_one_line t) true h refl
 
 accept_lines : (a : Bool) → are_lines (accept_line a) ≡ true
 unfolding manifest_types
@@ -69,8 +67,8 @@ accept_lines true = refl
 -- our heads are heads
 pub are_lines_of : (r : Request) → IsClean r → are_lines (lines_of r) ≡ true
 are_lines_of r clean =
-    both (is_line (first_line r)) _ (first_is_line r.method r.target clean.method clean.target)
-    (both (is_one_line r.host) _ clean.host
+    and_from (is_line (first_line r)) _ (first_is_line r.method r.target clean.method clean.target)
+    (and_from (is_one_line r.host) _ clean.host
     (are_lines-append (accept_line r.accept) _ (accept_lines r.accept)
     (are_lines-append (type_line r.content_type) _ (type_lines r.content_type clean.content_type)
     (are_lines-append (size_line r.length) _ (size_lines r.length clean.size) refl))))
@@ -91,7 +89,7 @@ no_length_method (c ∷ []) x h = by_test (67 == c)
 no_length_method (c ∷ d ∷ m) x h = by_test (67 == c) (111 == d) (begins (codes "ntent-Length: ") (m ++ (32 ∷ x))) no
   where
     upper : is_ascii_uppercase d ≡ true
-    upper = and_left (is_ascii_uppercase d) (list_all is_ascii_uppercase m) (and_right (is_ascii_uppercase c) (list_all is_ascii_uppercase (d ∷ m)) h)
+    upper = (and_parts (is_ascii_uppercase d) (list_all is_ascii_uppercase m) (and_parts (is_ascii_uppercase c) (list_all is_ascii_uppercase (d ∷ m)) h).1).0
 
     no : (111 == d) ≡ false
     no = grind (arith, nat_tests)
@@ -145,17 +143,13 @@ method_is : (v m x : List ℕ) → list_all is_ascii_uppercase v ≡ true → li
     → begins (v ++ codes " ") (m ++ (32 ∷ x)) ≡ true → m ≡ v
 method_is [] [] x g h e = refl
 method_is [] (c ∷ m) x g h e =
-    absurd (space_is_no_capital c (and_left (is_ascii_uppercase c) (list_all is_ascii_uppercase m) h) (same_byte 32 c (and_left (32 == c) true e)))
+    absurd (space_is_no_capital c (and_parts (is_ascii_uppercase c) (list_all is_ascii_uppercase m) h).0 (same_byte 32 c (and_parts (32 == c) true e).0))
 method_is (v ∷ vs) [] x g h e =
-    absurd (space_is_no_capital v (and_left (is_ascii_uppercase v) (list_all is_ascii_uppercase vs) g) (sym (same_byte v 32 (and_left (v == 32) (begins (vs ++ codes " ") x) e))))
+    absurd (space_is_no_capital v (and_parts (is_ascii_uppercase v) (list_all is_ascii_uppercase vs) g).0 (sym (same_byte v 32 (and_parts (v == 32) (begins (vs ++ codes " ") x) e).0)))
 method_is (v ∷ vs) (c ∷ m) x g h e =
-    ap (λ (w : ℕ). w ∷ m) (sym (same_byte v c (and_left (v == c) (begins (vs ++ codes " ") (m ++ (32 ∷ x))) e)))
-    ∙ ap (λ (w : List ℕ). v ∷ w) (method_is vs m x (and_right (is_ascii_uppercase v) (list_all is_ascii_uppercase vs) g)
-    (and_right (is_ascii_uppercase c) (list_all is_ascii_uppercase m) h) (and_right (v == c) (begins (vs ++ codes " ") (m ++ (32 ∷ x))) e))
-
-by_bool : (b : Bool) → (b ≡ true → ⊥) → b ≡ false
-by_bool true impossible = absurd (impossible refl)
-by_bool false impossible = refl
+    ap (λ (w : ℕ). w ∷ m) (sym (same_byte v c (and_parts (v == c) (begins (vs ++ codes " ") (m ++ (32 ∷ x))) e).0))
+    ∙ ap (λ (w : List ℕ). v ∷ w) (method_is vs m x (and_parts (is_ascii_uppercase v) (list_all is_ascii_uppercase vs) g).1
+    (and_parts (is_ascii_uppercase c) (list_all is_ascii_uppercase m) h).1 (and_parts (v == c) (begins (vs ++ codes " ") (m ++ (32 ∷ x))) e).1)
 
 -- a PUT without a type of its body, and of an empty body
 empty_put : (a : Bool) (host target : List ℕ) → puts_manifest
@@ -186,8 +180,8 @@ put_of m a host target None (Some zero) e none =
     (empty_put a host target)
 
 no_manifest_put : (r : Request) → IsClean r → ¬ (IsManifestPut r) → puts_manifest (lines_of r) ≡ false
-no_manifest_put r clean none = by_bool (puts_manifest (lines_of r)) (λ e.
-    let is_put = method_is (codes "PUT") r.method (r.target ++ codes " HTTP/1.1") refl clean.method (and_left _ _ e) in
+no_manifest_put r clean none = false_from_ne_true (puts_manifest (lines_of r)) (λ e.
+    let is_put = method_is (codes "PUT") r.method (r.target ++ codes " HTTP/1.1") refl clean.method (and_parts _ _ e).0 in
     never (puts_manifest (lines_of r)) e (put_of r.method r.accept r.host r.target r.content_type r.length is_put (λ w. none (is_put, w))))
   where
     never : (b : Bool) → b ≡ true → b ≡ false → ⊥
@@ -200,4 +194,4 @@ puts_none r body sent tail ls after none b has =
 pub deletes_none : (r : Request) → DeletesNone r
 deletes_none r body sent tail ls after other b has =
     ap deletes (one_head r body sent tail ls after b has).0
-    ∙ by_bool (deletes (lines_of r)) (λ e. other (method_is (codes "DELETE") r.method (r.target ++ codes " HTTP/1.1") refl b.clean.method e))
+    ∙ false_from_ne_true (deletes (lines_of r)) (λ e. other (method_is (codes "DELETE") r.method (r.target ++ codes " HTTP/1.1") refl b.clean.method e))

@@ -8,15 +8,11 @@ use Rattle.http_message.specs.Outcome.{Header, Answer}
 use Rattle.http_message.specs.Spelling.{told_header, told_headers, answer_with}
 use Rattle.http_message.specs.Shown.{pair_bytes}
 use Rattle.skopeo_outside.specs.declared.pair.Pair.{Pair}
-use Rattle.std.proofs.lemmas.List.{map-append}
+use Rattle.std.proofs.lemmas.List.{map-append, append-nil}
 
 no_utf8 : (b : Bool) (bs : List ℕ) → b ≡ is_utf8 bs → ¬ (IsUtf8 bs) → b ≡ false
 no_utf8 true bs e other = absurd (other (IsUtf8-from_is_utf8 bs (sym e)))
 no_utf8 false bs e other = refl
-
-append_none : (xs : List Header) → xs ++ [] ≡ xs
-append_none [] = refl
-append_none (x ∷ xs) = ap (λ (ys : List Header). x ∷ ys) (append_none xs)
 
 by_test : (a b : Bool) (h : Header) → a ≡ false → (if a && b then h ∷ [] else []) ≡ []
 by_test true b h e = cc
@@ -36,12 +32,12 @@ by_both false b h e f = cc
 pub untold_name : (told : List Header) (h : Header) (name : List ℕ) → name ≡ h.0 → ¬ (IsUtf8 name) → told ≡ told ++ told_header h
 untold_name told h name e other =
     sym (ap (λ (w : List Header). told ++ w) (by_test (is_utf8 h.0) (is_utf8 h.1) h
-    (no_utf8 (is_utf8 h.0) h.0 refl (λ u. other (subst IsUtf8 (sym e) u)))) ∙ append_none told)
+    (no_utf8 (is_utf8 h.0) h.0 refl (λ u. other (subst IsUtf8 (sym e) u)))) ∙ append-nil told)
 
 pub untold_value : (told : List Header) (h : Header) (value : List ℕ) → value ≡ h.1 → ¬ (IsUtf8 value) → told ≡ told ++ told_header h
 untold_value told h value e other =
     sym (ap (λ (w : List Header). told ++ w) (by_second (is_utf8 h.0) (is_utf8 h.1) h
-    (no_utf8 (is_utf8 h.1) h.1 refl (λ u. other (subst IsUtf8 (sym e) u)))) ∙ append_none told)
+    (no_utf8 (is_utf8 h.1) h.1 refl (λ u. other (subst IsUtf8 (sym e) u)))) ∙ append-nil told)
 
 -- both are: the pair is added
 pub told_pair : (old new : List Pair) (p : Pair) (h : Header) (name value : List ℕ) → new ≡ old ++ p ∷ []

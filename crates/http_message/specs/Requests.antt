@@ -65,17 +65,17 @@ pub record Begins (r : Request) (body sent tail : List ℕ) : Type 0 where
 abbrev pub IsManifestPut : Request → Type 0
 IsManifestPut r = (r.method ≡ codes "PUT") × ((r.content_type ≢ None) ⊎ (r.length ≢ Some 0))
 
--- What was sent of a request has no head but its own, and behind that a front of its body.
+-- What was sent of a request, where nothing in it ends a line, has no head but its own, and behind that a front of its body.
 abbrev pub OneHead : Request → Type 0
 OneHead r = (body sent tail : List ℕ) (ls : List (List ℕ)) (after : List ℕ)
     → Begins r body sent tail → HasHead sent ls after → (ls ≡ lines_of r) × (after ++ tail ≡ body)
 
--- What was sent of a request that is no manifest's put puts no manifest, whatever its target holds.
+-- What was sent of such a request that is no manifest's put puts no manifest, whatever else its target holds.
 abbrev pub PutsNone : Request → Type 0
 PutsNone r = (body sent tail : List ℕ) (ls : List (List ℕ)) (after : List ℕ)
     → ¬ (IsManifestPut r) → Begins r body sent tail → HasHead sent ls after → puts_manifest ls ≡ false
 
--- What was sent of a request that is no DELETE deletes nothing.
+-- What was sent of such a request that is no DELETE deletes nothing.
 abbrev pub DeletesNone : Request → Type 0
 DeletesNone r = (body sent tail : List ℕ) (ls : List (List ℕ)) (after : List ℕ)
     → r.method ≢ codes "DELETE" → Begins r body sent tail → HasHead sent ls after → deletes ls ≡ false

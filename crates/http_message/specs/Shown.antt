@@ -8,6 +8,7 @@ use Rattle.skopeo_outside.specs.declared.pair.Pair.{Pair}
 use Rattle.http_message.specs.Blocks.{most_lines}
 use Rattle.http_message.specs.Outcome.{Header, Answer}
 use Rattle.http_message.specs.Heads.{IsHead, header_lines, headers_of}
+use Rattle.http_message.specs.Spelling.{told_headers}
 
 -- the name and the value of a header line that is kept
 abbrev pub field_bytes : Field → Header
@@ -25,6 +26,10 @@ pub record Shows (head : Head) (h : ResponseHead) : Type 0 where
 -- the block is a head, and this is kept of it
 abbrev pub IsHeadOf : List ℕ → Head → Type 0
 IsHeadOf block head = (h : ResponseHead) × (header_lines block ≤ most_lines) × IsHead block h × Shows head h
+
+-- the answer with what is kept of a head, and this body
+abbrev pub answer_kept : Head → List ℕ → Answer
+answer_kept head body = record { status = head.status; headers = told_headers (map field_bytes head.fields.items); body = body }
 
 -- the answer that a response stands for
 abbrev pub answer_of : Response → Answer

@@ -1,11 +1,11 @@
 -- What the bytes that were received on one connection spell, as the answer to one request (RFC 9112, sections 4, 6 and 7).
--- It is a relation on all of them, and on whether their end has come: in what pieces they came plays no part.
-use Rattle.std.specs.Prelude.{◌≡◌, ℕ, Bool, true, false, ◌&&◌, ◌==◌, List, [], ◌∷◌, flat_map, if◌then◌else◌}
+-- It is a relation on all of them, and on whether their end has come.
+use Rattle.std.specs.Prelude.{◌≡◌, ◌≢◌, ℕ, Bool, true, false, ◌&&◌, ◌==◌, List, [], ◌∷◌, ◌++◌, flat_map, if◌then◌else◌}
 use Rattle.std.specs.Str.{is_utf8}
 use Rattle.httparse.specs.Grammar.{ResponseHead, status_code}
 use Rattle.http_message.specs.declared.framing.Framing.{Framing}
 use Rattle.http_message.specs.declared.framing.Framing.TheVariants.{Wrong, Sized, Chunked, ToEnd}
-use Rattle.http_message.specs.Outcome.{Header, Answer, Outcome, answer, bad_answer, encoded}
+use Rattle.http_message.specs.Outcome.{Header, Answer, Outcome, answer, bad_answer, encoded, unfinished}
 use Rattle.http_message.specs.Heads.{HasFinalHead, HasNoFinalHead, most_interim, headers_of}
 use Rattle.http_message.specs.Framing.{is_encoded, framing_of}
 use Rattle.http_message.specs.Bodies.{SizedBody, NoSizedBody, BodyToEnd, NoBodyToEnd}
@@ -62,3 +62,8 @@ pub data Spells (get : Bool) (limit : ℕ) (o : Outcome) (bytes : List ℕ) (end
 abbrev pub OneOutcome : Bool → ℕ → Type 0
 OneOutcome get limit = (o p : Outcome) (bytes : List ℕ) (ended : Bool)
     → Spells get limit o bytes ended → Spells get limit p bytes ended → o ≡ p
+
+-- what bytes spell before their end, but unfinished, they spell whatever comes behind them
+abbrev pub OutcomeStays : Bool → ℕ → Type 0
+OutcomeStays get limit = (o : Outcome) (bytes more : List ℕ) (ended : Bool) → o ≢ unfinished
+    → Spells get limit o bytes false → Spells get limit o (bytes ++ more) ended

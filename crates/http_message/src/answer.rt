@@ -1,7 +1,7 @@
 // An answer, as callers get it.
 ghost use Rattle.std.specs.Prelude.{◌≡◌, ◌==◌, ◌&&◌, ℕ, Bool, List, ◌++◌, map, IfOk, OnOk};
 ghost use Rattle.httparse.specs.Grammar.{ResponseHead};
-ghost use Rattle.http_message.specs.Shown.{field_bytes, pair_bytes, Shows, answer_of};
+ghost use Rattle.http_message.specs.Shown.{field_bytes, pair_bytes, Shows, answer_of, answer_kept};
 ghost use Rattle.http_message.specs.Spelling.{has_body, told_header, told_headers, answer_with};
 
 use crate::head::{Field, Head};
@@ -12,8 +12,11 @@ use std::str;
 /// An answer: its status, its header lines in their order, and its body.
 #[derive(Debug, Drop)]
 pub struct Response {
+    /// Its status code.
     pub status: u16,
+    /// Its header lines, those that are told.
     pub headers: Many<Pair>,
+    /// Its body, empty where it has none that is read.
     pub body: Many<u8>,
 }
 
@@ -53,6 +56,7 @@ pub fn told_headers(alloc: Global, fields: &[Field]) -> Result<Many<Pair>, Memor
 
 /// The response with this head and this body. The only error is want of memory.
 pub fn respond(alloc: Global, head: &Head, body: Many<u8>) -> Result<Response, Memory>
+    ensures kept { IfOk result (λ r. answer_of r ≡ answer_kept head.now body) }
     ensures answer { IfOk result (λ r. (h : ResponseHead) → Shows head.now h → answer_of r ≡ answer_with h body) }
 {
     let headers = told_headers(alloc, &head.fields)?;

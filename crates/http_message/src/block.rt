@@ -5,10 +5,15 @@ ghost use Rattle.http_message.specs.Blocks.{ends_at, ends_empty_line, begins_lin
 /// Most bytes of a head, a trailer part or a chunk line.
 pub const MOST_BYTES: usize = 65536;
 
-/// What ends a block: an empty line ends a head and a trailer part, a line feed a chunk line.
+/// Most header lines of a head or a trailer part.
+pub const MOST_LINES: usize = 100;
+
+/// What ends a block.
 #[derive(Clone, Copy, Debug, PartialEq, Eq)]
 pub enum Ending {
+    /// An empty line: of a head and a trailer part.
     EmptyLine,
+    /// A line feed: of a chunk line.
     LineFeed,
 }
 

@@ -1,18 +1,18 @@
 // Chunk lines and trailer parts.
-ghost use Rattle.std.specs.Prelude.{◌≡◌, ◌≤◌, ℕ, List, length};
+ghost use Rattle.std.specs.Prelude.{◌≡◌, ◌≤◌, ℕ, List, length, IsErrOf};
 ghost use Rattle.http_message.specs.Outcome.{Gives};
 ghost use Rattle.http_message.specs.Chunks.{trailer_lines, IsChunkLineOf, IsWrongChunkLine, IsTrailer, IsWrongTrailer};
 
+use crate::block::MOST_LINES;
 use crate::fault::AnswerFault;
 use httparse::spans::{EMPTY_HEADER_SPAN, parse_headers};
 use httparse::{Status, parse_chunk_size};
 
-const MOST_LINES: usize = 100;
-
 /// Reads a block as a chunk line, all of it, and answers the chunk's size (RFC 9112, section 7.1). It is
-/// BadAnswer where it is none.
+/// BadAnswer where it is none. Takes no memory.
 pub fn read_chunk_line(block: &[u8]) -> Result<u64, AnswerFault>
-    ensures { Gives (IsChunkLineOf block.now) (λ o. IsWrongChunkLine o block.now) result }
+    ensures line { Gives (IsChunkLineOf block.now) (λ o. IsWrongChunkLine o block.now) result }
+    ensures told { ¬ (IsErrOf result AnswerFault.Memory) }
 {
     match parse_chunk_size(block) {
         Ok(Status::Complete((len, size))) => {
@@ -38,10 +38,11 @@ fn trailer_lines(block: &[u8]) -> usize
 }
 
 /// Reads a block as a trailer part, all of it; its lines are dropped (RFC 9112, section 7.1.2). It is
-/// HeadersTooMany where it has more than 100 lines, and else BadAnswer where it is none.
+/// HeadersTooMany where it has more than 100 lines, and else BadAnswer where it is none. Takes no memory.
 pub fn read_trailer(block: &[u8]) -> Result<(), AnswerFault>
     requires { length block.now ≤ 65536 }
-    ensures { Gives (λ _. (trailer_lines block.now ≤ 100) × IsTrailer block.now) (λ o. IsWrongTrailer o block.now) result }
+    ensures trailer { Gives (λ _. (trailer_lines block.now ≤ 100) × IsTrailer block.now) (λ o. IsWrongTrailer o block.now) result }
+    ensures told { ¬ (IsErrOf result AnswerFault.Memory) }
 {
     let lines = trailer_lines(block);
     if lines > MOST_LINES {

@@ -5,24 +5,27 @@ ghost use Rattle.http_message.specs.Outcome.{Gives};
 ghost use Rattle.http_message.specs.Heads.{header_lines, IsWrongHead, is_interim};
 ghost use Rattle.http_message.specs.Shown.{field_bytes, IsHeadOf};
 
+use crate::block::MOST_LINES;
 use crate::fault::AnswerFault;
 use httparse::Status;
 use httparse::spans::{EMPTY_HEADER_SPAN, HeaderSpan, parse_response};
 use std::alloc::{AllocError, Global};
 
-const MOST_LINES: usize = 100;
-
-/// A header line: its name, and its value without the white space around it.
+/// A header line, without the white space around its value.
 #[derive(Drop)]
 pub struct Field {
+    /// Its name, in the letters that came.
     pub name: Vec<u8>,
+    /// Its value, which may be empty.
     pub value: Vec<u8>,
 }
 
 /// A head: its status and its header lines, in their order.
 #[derive(Drop)]
 pub struct Head {
+    /// Its status code.
     pub status: u16,
+    /// Its header lines.
     pub fields: Vec<Field>,
 }
 

@@ -2,16 +2,19 @@
 ghost use Rattle.std.specs.Prelude.{ℕ, Bool, List};
 ghost use Rattle.skopeo_outside.specs.Wire.{Conversation};
 ghost use Rattle.http_message.specs.declared.request.Request.{Request};
-ghost use Rattle.http_message.specs.Spelling.{OneOutcome};
+ghost use Rattle.http_message.specs.Spelling.{OneOutcome, OutcomeStays};
 ghost use Rattle.http_message.specs.Requests.{OneHead, PutsNone, DeletesNone};
 ghost use Rattle.http_message.specs.Writes.{OwnWrites, PutWrites, PlainRequests};
 
-/// All bytes that were received spell at most one outcome, so it plays no part in what pieces they came.
+/// All bytes that were received spell at most one outcome. One that they spell before their end, but unfinished, stays
+/// whatever comes behind, so in what pieces they came plays no part.
 pub fn one_outcome()
     ensures outcome { (get : Bool) (limit : ℕ) → OneOutcome get limit }
+    ensures stays { (get : Bool) (limit : ℕ) → OutcomeStays get limit }
 {}
 
-/// What was sent of a request has that request's head and no other, and behind it a front of its body.
+/// What was sent of a request, where nothing in it ends a line, has that request's head and no other, and behind it
+/// a front of its body.
 /// Where the request is no manifest's put it puts none, and where it is no DELETE it deletes nothing.
 pub fn one_head()
     ensures head { (r : Request) → OneHead r }
@@ -19,8 +22,8 @@ pub fn one_head()
     ensures deletes_none { (r : Request) → DeletesNone r }
 {}
 
-/// A request writes no manifest on a wire but its own, a put that tells its body's type writes that one,
-/// and conversations of other requests write none and delete nothing.
+/// Where nothing in a request ends a line, it writes no manifest on a wire but its own, a put that tells its body's
+/// type writes that one, and conversations of other requests write none and delete nothing.
 pub fn own_writes()
     ensures own { (r : Request) → OwnWrites r }
     ensures put { (r : Request) → PutWrites r }

@@ -7,12 +7,16 @@ use http::Method;
 use skopeo_outside::{Memory, Text};
 use std::alloc::Global;
 
-/// A request. Its host has the port where one was written; `port` is that of the connection.
+/// A request, apart from the bytes of its body.
 #[derive(Drop)]
 pub struct Request {
+    /// Its method.
     pub method: Method,
+    /// The host text of its line `Host`, with its port where one was written.
     pub host: Text,
+    /// The port that is connected to.
     pub port: u16,
+    /// The path with its query.
     pub target: Text,
     /// Whether it says which kinds of manifest are taken.
     pub accept: bool,

@@ -1,3 +1,5 @@
 pub mod Totals
 pub mod Steps
 pub mod RowLemmas
+pub mod Learning
+pub mod Offering

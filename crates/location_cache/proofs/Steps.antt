@@ -238,5 +238,9 @@ closes jobs id v s k at whole =
         once = λ job. sym (alone (λ u. times job u.drawn) refl s.views id v idle at all) ∙ k.drawn job;
         past = mine.past;
       },
-      λ lower. (k.least, (let low = mine.seen in let some_one = k.stands (λ e. absurd (omega arith)) in let one = alone (λ u. times k.least u.failed) refl s.views id v idle at all in omega arith)),
+      λ lower. (
+        k.least,
+        (let low = mine.seen in let some_one = k.stands (λ e. absurd (omega arith)) in let one = alone (λ u. times k.least u.failed) refl s.views id v idle at all in omega arith),
+        mine.seen,
+      ),
     )

@@ -1,3 +1,4 @@
 pub mod Rule
 pub mod Seats
 pub mod Rows
+pub mod Offers

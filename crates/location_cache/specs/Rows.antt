@@ -1,5 +1,5 @@
 -- The rows of a location cache: in which repositories of which registries blobs were seen, oldest first.
-use Rattle.std.specs.Prelude.{◌≡◌, ℕ, ◌-◌, List, [], ◌∷◌, Bool, ◌&&◌, if◌then◌else◌, length, drop, reverse}
+use Rattle.std.specs.Prelude.{◌≡◌, ℕ, ◌-◌, ◌≤◌, List, [], ◌∷◌, Bool, ◌&&◌, if◌then◌else◌, length, drop, reverse}
 use Rattle.std.specs.List.{list_any}
 use Rattle.std.specs.Str.{bytes_eq}
 use Rattle.std.specs.declared.cmp.Ordering.{Ordering}
@@ -28,6 +28,11 @@ lasts (row ∷ rows) = if has_row rows row then lasts rows else row ∷ lasts ro
 -- each row once, at its last place, and of these the last 4,096
 abbrev pub kept_rows : List CacheRow → List CacheRow
 kept_rows rows = drop (length (lasts rows) - most_rows) (lasts rows)
+
+-- rows that a cache may hold: each once, and at most 4,096
+pub record AreKept (rows : List CacheRow) : Type 0 where
+  pub once : lasts rows ≡ rows
+  pub few : length rows ≤ most_rows
 
 -- rows stand in the order of host, digest, repository
 abbrev pub row_cmp : CacheRow → CacheRow → Ordering

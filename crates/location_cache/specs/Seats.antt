@@ -41,6 +41,6 @@ pub record AreDrawn (jobs : ℕ) (v : View) : Type 0 where
   pub once : (job : ℕ) → times job v.drawn ≡ once_to draws job
   pub past : v.done ≡ true → jobs < draws
 
--- where the least failed job was seen, a job has failed
+-- where a failed job was read, a job has failed that is not above it
 abbrev pub SawFailed : View → Type 0
-SawFailed v = v.seen < none_failed → (job : ℕ) × HasFailed v job
+SawFailed v = v.seen < none_failed → (job : ℕ) × HasFailed v job × (job ≤ v.seen)

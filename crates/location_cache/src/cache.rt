@@ -1,8 +1,11 @@
 // The location cache: where blobs were seen.
-ghost use Rattle.std.specs.Prelude.{◌≡◌, ◌≤◌, ◌∷◌, [], List, IfOk, OnOk, vec_capacity};
+ghost use Rattle.std.specs.Prelude.{◌≡◌, ◌≤◌, ◌++◌, ◌∷◌, [], List, IfOk, OnOk, reverse, vec_capacity};
 ghost use Rattle.location_cache.specs.declared.cache.CacheRow.{CacheRow};
 ghost use Rattle.location_cache.specs.Rows.{most_rows, kept_rows, HasKept};
+ghost use Rattle.location_cache.specs.Offers.{candidates};
 
+use crate::candidates::{Candidates, offered};
+use crate::learn::make_room;
 use image_ref::Digest;
 use skopeo_outside::{Many, Memory, Text};
 use std::alloc::Global;
@@ -10,13 +13,16 @@ use std::collections::BTreeSet;
 use std::marker::Model;
 
 /// The most rows that a cache holds.
-const MOST_ROWS: usize = 4096;
+pub(crate) const MOST_ROWS: usize = 4096;
 
 /// A blob was seen in a repository of a registry.
 #[derive(Debug, Drop, PartialEq, Eq, PartialOrd, Ord)]
 pub struct CacheRow {
+    /// The registry, with its port where one was written.
     pub host: Text,
+    /// The blob's.
     pub digest: Digest,
+    /// A path at that registry.
     pub repository: Text,
 }
 
@@ -27,15 +33,15 @@ pub struct Cache {
 }
 
 impl Model for Cache {
-    ghost use Rattle.std.specs.Prelude.{◌≤◌, List, length, vec_capacity};
+    ghost use Rattle.std.specs.Prelude.{◌≤◌, List, vec_capacity};
     ghost use Rattle.location_cache.specs.declared.cache.CacheRow.{CacheRow};
-    ghost use Rattle.location_cache.specs.Rows.{most_rows};
+    ghost use Rattle.location_cache.specs.Rows.{most_rows, AreKept};
 
     ghost Value = { List CacheRow };
 
     ghost view = { λ c. c.rows.items };
 
-    ghost invariant = { λ c. most_rows ≤ vec_capacity c.rows };
+    ghost invariant = { λ c. AreKept c.rows.items × (most_rows ≤ vec_capacity c.rows) };
 }
 
 fn copy_row(alloc: Global, row: &CacheRow) -> Result<CacheRow, Memory>
@@ -71,6 +77,15 @@ fn add_older(
     Ok(())
 }
 
+/// Turns rows round that stand newest first.
+fn oldest_first(mut rows: Vec<CacheRow>) -> Vec<CacheRow>
+    ensures rows { result.items ≡ reverse rows.items }
+    ensures room { vec_capacity result ≡ vec_capacity rows }
+{
+    rows.as_mut_slice().reverse();
+    rows
+}
+
 impl Cache {
     /// A cache of loaded rows: each once, at its last place, and of these the last 4,096. Its error is want of memory.
     pub fn new(alloc: Global, loaded: Many<CacheRow>) -> Result<Cache, Memory>
@@ -82,7 +97,23 @@ impl Cache {
         while let Some(row) = rest.pop() {
             add_older(alloc, &mut seen, &mut rows, row)?;
         }
-        rows.as_mut_slice().reverse();
-        Ok(Cache { rows })
+        Ok(Cache {
+            rows: oldest_first(rows),
+        })
+    }
+
+    /// The row becomes the newest; where there are then more than 4,096 rows, the oldest goes. It takes no memory.
+    pub fn learn(&mut self, row: CacheRow)
+        ensures { self.new ≡ kept_rows (self.old ++ row ∷ []) }
+    {
+        make_room(&mut self.rows, &row);
+        self.rows.push(row).unwrap();
+    }
+
+    /// The repositories of a registry where a blob was seen, newest first, at most 4, but for one. It takes no memory.
+    pub fn candidates(&self, host: &str, digest: &Digest, except: &str) -> Candidates<'_>
+        ensures { result ≡ candidates host.now digest.now except.now self.now }
+    {
+        offered(self.rows.as_slice(), host, digest, except)
     }
 }

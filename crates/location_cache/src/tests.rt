@@ -189,3 +189,70 @@ fn the_last_rows_are_kept(rt: HostRuntime) -> Result<(), Fail> {
     assert_eq!(rt; Cache::new(alloc, Many::new(alloc))?.rows.len(), 0);
     Ok(())
 }
+
+/// Whether a cache offers just these repositories for a digest of equal bytes, in this order.
+fn offers(cache: &Cache, host: &str, byte: u8, except: &str, wanted: &[&str]) -> bool {
+    let offered = cache.candidates(host, &Digest::from_bytes([byte; 32]), except);
+    if offered.count() != wanted.len() {
+        return false;
+    }
+    for (place, repository) in wanted.iter().enumerate() {
+        if offered.at(place) != Some(*repository) {
+            return false;
+        }
+    }
+    offered.at(wanted.len()).is_none()
+}
+
+/// Six repositories of one registry have a blob: the newest four but one are offered, and a learnt row becomes the newest.
+#[test]
+fn newest_repositories_are_offered(rt: HostRuntime) -> Result<(), Fail> {
+    let alloc = rt.alloc();
+    let host = "reg.local:5000";
+    let mut cache = Cache::new(alloc, many_rows(alloc, 6, 1)?)?;
+    assert!(rt;
+        offers(
+            &cache,
+            host,
+            7,
+            "team/app",
+            &["ns/5", "ns/4", "ns/3", "ns/2"]
+        )
+    );
+    assert!(rt; offers(&cache, host, 7, "ns/4", &["ns/5", "ns/3", "ns/2", "ns/1"]));
+    assert!(rt; offers(&cache, host, 8, "team/app", &[]), "another digest");
+    assert!(rt;
+        offers(&cache, "reg.local", 7, "team/app", &[]),
+        "another host"
+    );
+    cache.learn(row(alloc, host, 7, "ns/1")?);
+    cache.learn(row(alloc, host, 8, "ns/9")?);
+    assert_eq!(rt; cache.rows.len(), 7);
+    assert!(rt;
+        offers(
+            &cache,
+            host,
+            7,
+            "team/app",
+            &["ns/1", "ns/5", "ns/4", "ns/3"]
+        )
+    );
+    assert!(rt; offers(&cache, host, 8, "team/app", &["ns/9"]));
+    Ok(())
+}
+
+/// A full cache loses its oldest row where a new one is learnt, and none where the row is there.
+#[test]
+fn full_cache_loses_its_oldest_row(rt: HostRuntime) -> Result<(), Fail> {
+    let alloc = rt.alloc();
+    let mut cache = Cache::new(alloc, many_rows(alloc, 4096, 1)?)?;
+    cache.learn(row(alloc, "reg.local:5000", 7, "ns/0")?);
+    assert_eq!(rt; cache.rows.len(), 4096);
+    assert!(rt; cache.rows[0] == row(alloc, "reg.local:5000", 7, "ns/1")?);
+    assert!(rt; cache.rows[4095] == row(alloc, "reg.local:5000", 7, "ns/0")?);
+    cache.learn(row(alloc, "reg.local:5000", 7, "new")?);
+    assert_eq!(rt; cache.rows.len(), 4096);
+    assert!(rt; cache.rows[0] == row(alloc, "reg.local:5000", 7, "ns/2")?);
+    assert!(rt; cache.rows[4095] == row(alloc, "reg.local:5000", 7, "new")?);
+    Ok(())
+}

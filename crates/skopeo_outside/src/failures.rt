@@ -13,6 +13,7 @@ pub struct Failures {
 }
 
 impl Failures {
+    /// The calls of these numbers, from 1, fail. None was made yet.
     pub fn new(failing: Vec<u64>) -> Self
         ensures { result.count ≡ 0 }
     {

@@ -6,6 +6,7 @@ ghost use Rattle.skopeo_outside.specs.Helper.{Runs, GainsRun, GainsRunOrNot, end
 use crate::lists::Many;
 use crate::stop::Stop;
 
+/// Programs that are run, one at a time.
 pub trait Helper {
     /// The runs so far, the last one last, where they are told.
     ghost runs: { Self → Runs };

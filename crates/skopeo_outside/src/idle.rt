@@ -14,6 +14,7 @@ pub struct Idle {
 }
 
 impl Idle {
+    /// An object none of whose calls has failed yet.
     pub fn new() -> Self
         ensures { result.count ≡ 0 }
     {

@@ -9,6 +9,7 @@ mod lane;
 mod line;
 mod listing;
 mod lists;
+mod map_peer;
 mod mem_wire;
 mod memory;
 mod pair;
@@ -25,6 +26,7 @@ pub use idle::{Idle, Passing};
 pub use lane::Lane;
 pub use line::{Peer, SureWire};
 pub use lists::{Entry, Many, Text};
+pub use map_peer::{MapPeer, PeerFraming};
 pub use mem_wire::MemWire;
 pub use memory::{MemFiles, SureFiles};
 pub use pair::Pair;
@@ -33,3 +35,6 @@ pub use sink::{MemSink, Sink, SureSink};
 pub use stop::{Memory, Stop};
 pub use wire::Wire;
 pub use words::{Fetched, Step, What};
+
+#[cfg(test)]
+mod tests;

@@ -8,8 +8,19 @@ use Rattle.copy_workers.specs.Kept.{KeepsAll}
 use Rattle.copy_workers.specs.Plain.{alone_view}
 use Rattle.copy_workers.specs.Gathered.{InOrder}
 use Rattle.copy_workers.proofs.Keeping.{keeps_next}
-use Rattle.copy_workers.proofs.Alone.{order_push, plain_more}
+use Rattle.copy_workers.proofs.Alone.{next_unasked, order_push, plain_more}
 use Rattle.copy_workers.proofs.plain.run_plain.Goals as goal
+
+pub finish-end-requires-clause-unasked : goal.finish-end-requires-clause-unasked
+finish-end-requires-clause-unasked g c =
+    let b = g.L.BlobLane in
+    let i = c.loop-job.invariant in
+    let k = c.loop-job.job-index in
+    let jobs = c.args.jobs.now in
+    let job = c.job-item.result in
+    let is : job ≡ get_or jobs k job = search rules in
+    let lk : k < length jobs = omega arith in
+    next_unasked b.tells jobs job k c.loop-job.lane c.loop-job.outcomes.items c.requires.jobs i.works lk is
 
 pub returns-then-failed-clause-done : goal.returns-then-failed-clause-done
 returns-then-failed-clause-done g c =

@@ -14,7 +14,7 @@ conclude-requires-clause-room c =
     let s = c.sort_unstable_by_key in
     let o = c.requires.once in
     let up = sorted c in
-    let l = (in_order s.new.self.items 0 o.0 zero-le (ascends s.new.self.items 0 (λ k d h. zero-le) (λ k d h. up k (k + 1) d (omega arith) h))
+    let l = (in_order s.new.self.items o.0 (ascends s.new.self.items 0 (λ k d h. zero-le) (λ k d h. up k (k + 1) d (omega arith) h))
     (λ job. sum_by-IsPermutation (λ (y : Outcome). cond (y.job == job) 1 0) c.args.outcomes.items s.new.self.items s.ensures.permutation ∙ o.2 job)).1 in
     let le = o.1 in
     omega arith

@@ -4,8 +4,8 @@ use Rattle.httparse.proofs.ChunkLemmas.{chunk_line_unique}
 use Rattle.http_message.proofs.HeadLines.{same_length}
 use Rattle.http_message.proofs.chunk.read_chunk_line.Goals as goal
 
-pub returns-then-len-block : goal.returns-then-len-block
-returns-then-len-block c = (
+pub returns-then-len-block-clause-line : goal.returns-then-len-block-clause-line
+returns-then-len-block-clause-line c = (
   refl,
   λ l reads.
       let found = rw c.in-Ok-Complete.field-0-is at c.in-Ok-Complete.ensures.complete in

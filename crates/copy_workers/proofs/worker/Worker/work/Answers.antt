@@ -5,12 +5,27 @@ use Rattle.location_cache.specs.Rule.{times}
 use Rattle.copy_workers.specs.Lanes.{Calm}
 use Rattle.copy_workers.specs.Works.{DrewPast}
 use Rattle.copy_workers.proofs.Keeping.{keeps_job}
-use Rattle.copy_workers.proofs.Working.{works_more, works_end, drew_this}
+use Rattle.copy_workers.proofs.Working.{is_fresh, works_more, works_end, drew_this}
 use Rattle.copy_workers.proofs.worker.Worker.work.Goals as goal
 
 pub do_job-requires-clause-calm : goal.do_job-requires-clause-calm
 do_job-requires-clause-calm g c = ⊎_elim (λ (h : Calm g.L.BlobLane.tells c.loop-number.self.lane). h)
     (λ (f : (job : ℕ) × (0 < times job c.loop-number.self.seat.view.failed)). absurd (c.in-Some.ensures.calm f.0 f.1)) c.loop-number.invariant.calm
+
+pub do_job-requires-clause-unasked : goal.do_job-requires-clause-unasked
+do_job-requires-clause-unasked g c =
+    let b = g.L.BlobLane in
+    let i = c.loop-number.invariant in
+    let s = c.in-Some.ensures.some in
+    let all = c.requires.jobs.1 in
+    let jobs = c.args.jobs.now in
+    let k = c.in-Some.number - 1 in
+    let nk : c.in-Some.number ≡ k + 1 = omega arith in
+    let lk : k < length jobs = omega arith in
+    let job = c.index-jobs-number.result in
+    let is : job ≡ get_or jobs k job = search rules in
+    (is_fresh b.tells jobs job c.in-Some.number k c.loop-number.self.lane c.loop-number.self.outcomes.items c.loop-number.self.seat.view
+    c.requires.jobs.0 i.works nk lk is c.in-Some.ensures.greater).1
 
 later : (g : _) (c : goal.After-do_job g) → c.loop-number.last < c.in-Some.number
 later g c =

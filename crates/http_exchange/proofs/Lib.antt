@@ -1,0 +1,16 @@
+pub mod Rounds
+pub mod Ends
+pub mod ChunkRuns
+pub mod NextChunk
+pub mod Settling
+pub mod Giving
+pub mod Opened
+pub mod Collecting
+pub mod SendingLemmas
+pub mod Asking
+pub mod LocationLemmas
+pub mod Chaining
+pub mod WholeExchanges
+pub mod CallLemmas
+pub mod PlainLaws
+pub mod Interim

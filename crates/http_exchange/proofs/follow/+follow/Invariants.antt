@@ -1,0 +1,4 @@
+use Rattle.http_exchange.proofs.follow.+follow.Given as goal
+
+abbrev pub decreases-follow : goal.decreases-follow
+decreases-follow g l = l.left

@@ -1,0 +1,16 @@
+pub mod Received
+pub mod Found
+pub mod Streaming
+pub mod Reader
+pub mod Opening
+pub mod Collected
+pub mod Sending
+pub mod Locations
+pub mod Leads
+pub mod Talk
+pub mod Asked
+pub mod Chain
+pub mod Opened
+pub mod Hopping
+pub mod Calls
+pub mod Plain

@@ -1,0 +1,28 @@
+//! An HTTP/1.1 client over any wire: the outcome of an exchange is what all bytes that were received spell.
+#![tactic(auto)]
+
+mod answer;
+mod ask;
+mod block;
+mod chunk;
+mod collect;
+mod exchanging;
+mod follow;
+mod head;
+mod inbox;
+mod law;
+mod location;
+mod opening;
+mod pieces;
+mod sending;
+mod state;
+mod stream;
+
+pub use answer::{Answer, next_piece, open};
+pub use exchanging::exchange;
+pub use law::plain_exchanges;
+pub use location::port_of;
+pub use pieces::{begin, end, send_piece};
+
+#[cfg(test)]
+mod tests;
