@@ -14,8 +14,8 @@ use Rattle.layouts.specs.Paths.{blob_path, blob_part, version_path}
 use Rattle.layouts.specs.Trees.{OnlyAt, IsPut, OnlyBlobs, SameOrGone}
 use Rattle.layouts.proofs.NameLemmas.{blob_in, part_in, blob_not_manifest, part_not_manifest, blob_not_part, blob_not_version, part_not_version}
 use Rattle.layouts.proofs.FolderLemmas.{at_blobs, put_blobs}
-use Rattle.copy_engine.specs.declared.refusal.Cause.{Cause}
-use Rattle.copy_engine.specs.declared.refusal.Cause.TheVariants as why
+use Rattle.copy_workers.specs.declared.cause.Cause.{Cause}
+use Rattle.copy_workers.specs.declared.cause.Cause.TheVariants as why
 use Rattle.copy_engine.specs.Outcome.{is_free_cause}
 use Rattle.copy_engine.specs.Blobs.{IsWhole, IsFrontOf, limit_of, is_whole, mismatch_of, cause_of_bytes, cause_of, cause_at}
 use Rattle.copy_engine.specs.Carried.{IsCarried, CauseBy}
@@ -45,7 +45,7 @@ bytes_whole job bytes done e = by (is_whole job bytes) refl
     by : (b : Bool) → is_whole job bytes ≡ b → IsWhole job bytes
     by true t = is_whole_from job bytes t
     by false t =
-        let no : Ok done ≡ Err (why.Mismatch (mismatch_of job bytes)) = e ∙ ap (λ b. cond b (Ok tt) (Err (why.Mismatch (mismatch_of job bytes)))) t in
+        let no : Ok done ≡ Err (why.BlobMismatch (mismatch_of job bytes)) = e ∙ ap (λ b. cond b (Ok tt) (Err (why.BlobMismatch (mismatch_of job bytes)))) t in
         cc
 
 -- ---- how a job ends
@@ -63,11 +63,11 @@ free_ends e (Some t) source job free = subst (λ b. CauseBy b e (cause_at t sour
 
 -- no file stands in the blob's place
 pub absent_ends : (seen : Option Tree) (source : List ℕ) (job : Job) (limit : ℕ) → IfSome seen (λ t. None ≡ option_map (take limit) (file_at t (blob_path source job.digest)))
-    → IfSome seen (λ t. CauseBy false (why.Absent job.digest) (cause_at t source job))
+    → IfSome seen (λ t. CauseBy false (why.BlobAbsent job.digest) (cause_at t source job))
 absent_ends None source job limit none = tt
 absent_ends (Some t) source job limit none = by (file_at t (blob_path source job.digest)) refl
   where
-    by : (f : Option (List ℕ)) → file_at t (blob_path source job.digest) ≡ f → cause_at t source job ≡ Err (why.Absent job.digest)
+    by : (f : Option (List ℕ)) → file_at t (blob_path source job.digest) ≡ f → cause_at t source job ≡ Err (why.BlobAbsent job.digest)
     by None e = ap (cause_of job) e
     by (Some all) e = let no : None ≡ Some (take limit all) = none ∙ ap (option_map (take limit)) e in cc
 

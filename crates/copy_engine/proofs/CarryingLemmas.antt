@@ -15,13 +15,13 @@ use Rattle.layouts.specs.Paths.{blob_path}
 use Rattle.layouts.specs.Trees.{OnlyBlobs}
 use Rattle.layouts.proofs.NameLemmas.{blob_not_in, blobs_apart}
 use Rattle.layouts.proofs.FolderLemmas.{no_change_in, then_blobs, same_or_gone}
-use Rattle.copy_engine.specs.declared.carrying.JobFault.{JobFault}
-use Rattle.copy_engine.specs.declared.refusal.Cause.{Cause}
-use Rattle.copy_engine.specs.declared.refusal.Cause.TheVariants as why
+use Rattle.copy_workers.specs.declared.receipt.JobFault.{JobFault}
+use Rattle.copy_workers.specs.declared.cause.Cause.{Cause}
+use Rattle.copy_workers.specs.declared.cause.Cause.TheVariants as why
 use Rattle.copy_engine.specs.declared.refusal.Refusal.TheVariants as refusal
 use Rattle.copy_engine.specs.Outcome.{Answers, Refuses, is_free_cause}
 use Rattle.copy_engine.specs.Blobs.{cause_of, cause_at, or_next, first_fault, blobs_at}
-use Rattle.copy_engine.specs.Carried.{Each, AreDistinct, IsCopyOf, IsCarried, AreCarried, CauseBy, IsLeast}
+use Rattle.copy_engine.specs.Carried.{Each, IsCopyOf, IsCarried, AreCarried, CauseBy, IsLeast}
 use Rattle.copy_engine.specs.Calls.{by_cause, by_fault}
 use Rattle.copy_engine.proofs.CarryLemmas.{whole_bytes}
 use Rattle.copy_engine.proofs.OutcomeLemmas.{unsaid}
@@ -33,80 +33,28 @@ pub source_same : (source dest digest : List ℕ) (a b : Tree) → source ≢ de
 source_same source dest digest a b apart kept = kept.outside.files _ (blob_not_in source dest digest apart)
 
 -- the text of a digest is that of no other
-same_digest : (a b : List ℕ) → IsDigest a → IsDigest b → encode_lower a ≡ encode_lower b → a ≡ b
+pub same_digest : (a b : List ℕ) → IsDigest a → IsDigest b → encode_lower a ≡ encode_lower b → a ≡ b
 same_digest a b p q e =
     let t : digest_text a ≡ digest_text b = ap (λ x. codes "sha256:" ++ x) e in
     let s : Some a ≡ Some b = sym (digest_of-digest_text a p) ∙ ap digest_of t ∙ digest_of-digest_text b q in
     cc
 
 -- two blobs of different digests
-other_blob : (dest a b : List ℕ) → IsDigest a → IsDigest b → a ≢ b → blob_path dest a ≢ blob_path dest b
+pub other_blob : (dest a b : List ℕ) → IsDigest a → IsDigest b → a ≢ b → blob_path dest a ≢ blob_path dest b
 other_blob dest a b p q apart = blobs_apart dest a b (λ e. apart (same_digest a b p q e))
 
--- the blobs of an image have different digests
-pub distinct_blobs : (image : Image) (jobs : List Job) → jobs ≡ blobs image → AreDistinct jobs
-distinct_blobs image jobs e = subst AreDistinct (sym e) (AreJobsOf-blobs image).distinct
-
-copy_still : (source dest : List ℕ) (job other : Job) (a b c : Tree) → blob_path dest other.digest ≢ blob_path dest job.digest → IsCarried source dest job b c → IsCopyOf source dest a b other → IsCopyOf source dest a c other
+pub copy_still : (source dest : List ℕ) (job other : Job) (a b c : Tree) → blob_path dest other.digest ≢ blob_path dest job.digest → IsCarried source dest job b c → IsCopyOf source dest a b other → IsCopyOf source dest a c other
 copy_still source dest job other a b c apart next copy =
     record { is_digest = copy.is_digest; bytes = copy.bytes; from = copy.from; to = next.blobs _ (other.digest, refl) apart ∙ copy.to; whole = copy.whole }
 
-copy_here : (source dest : List ℕ) (job : Job) (a b c : Tree) → source ≢ dest → OnlyBlobs dest a b → IsCopyOf source dest b c job → IsCopyOf source dest a c job
+pub copy_here : (source dest : List ℕ) (job : Job) (a b c : Tree) → source ≢ dest → OnlyBlobs dest a b → IsCopyOf source dest b c job → IsCopyOf source dest a c job
 copy_here source dest job a b c apart kept copy =
     record { is_digest = copy.is_digest; bytes = copy.bytes; from = sym (source_same source dest job.digest a b apart kept) ∙ copy.from; to = copy.to; whole = copy.whole }
 
-one_more : (source dest : List ℕ) (jobs : List Job) (i : ℕ) (job : Job) (a b c : Tree) → AreDistinct jobs → source ≢ dest → i < length jobs → ((d : Job) → get_or jobs i d ≡ job)
-    → AreCarried source dest jobs i a b → IsCarried source dest job b c → AreCarried source dest jobs (i + 1) a c
-one_more source dest jobs i job a b c are apart lt here so next = record {
-  copies = λ k d. below_more (λ k. IsCopyOf source dest a c (get_or jobs k d)) i
-      (λ k h. copy_still source dest job (get_or jobs k d) a b c
-      (other_blob dest (get_or jobs k d).digest job.digest (so.copies k d h).is_digest next.copy.is_digest
-      (subst (λ j. (get_or jobs k d).digest ≢ j.digest) (here d) (are k i d h lt))) next (so.copies k d h))
-      (subst (IsCopyOf source dest a c) (sym (here d)) (copy_here source dest job a b c apart so.kept next.copy)) k;
-  others = λ q each. same_or_gone a b c q (so.others q (λ k d h. each k d (omega arith)))
-      (next.others q (subst (λ j. q ≢ blob_path dest j.digest) (here job) (each i job (omega arith))));
-  version = next.version ∙ so.version;
-  kept = then_blobs dest a b c so.kept next.kept;
-}
+-- ---- why a job that was copied does not fail
 
--- ---- where the trees are told
-
--- before the first job
-pub none_carried : (source dest : List ℕ) (jobs : List Job) (t : Option Tree) → Told (AreCarried source dest jobs 0) t t
-none_carried source dest jobs None = tt
-none_carried source dest jobs (Some t) = record { copies = λ k d h. absurd (omega arith); others = λ q each. inl refl; version = refl; kept = no_change_in dest t }
-
--- after one more
-pub one_more_told : (source dest : List ℕ) (jobs : List Job) (i : ℕ) (job : Job) (a b c : Option Tree) → AreDistinct jobs → source ≢ dest → i < length jobs → ((d : Job) → get_or jobs i d ≡ job)
-    → Told (AreCarried source dest jobs i) a b → Told (IsCarried source dest job) b c → Told (AreCarried source dest jobs (i + 1)) a c
-one_more_told source dest jobs i job None b c are apart lt here so next = tt
-one_more_told source dest jobs i job (Some a) None c are apart lt here so next = absurd so
-one_more_told source dest jobs i job (Some a) (Some b) None are apart lt here so next = next
-one_more_told source dest jobs i job (Some a) (Some b) (Some c) are apart lt here so next = one_more source dest jobs i job a b c are apart lt here so next
-
--- where one failed
-pub failed_kept : (source dest : List ℕ) (jobs : List Job) (i : ℕ) (a b c : Option Tree) → Told (AreCarried source dest jobs i) a b → Told (OnlyBlobs dest) b c → Told (OnlyBlobs dest) a c
-failed_kept source dest jobs i None b c so last = tt
-failed_kept source dest jobs i (Some a) None c so last = absurd so
-failed_kept source dest jobs i (Some a) (Some b) None so last = last
-failed_kept source dest jobs i (Some a) (Some b) (Some c) so last = then_blobs dest a b c so.kept last
-
-copy_has_no_cause : (source dest : List ℕ) (job : Job) (a b : Tree) → IsCopyOf source dest a b job → cause_at a source job ≡ Ok tt
+pub copy_has_no_cause : (source dest : List ℕ) (job : Job) (a b : Tree) → IsCopyOf source dest a b job → cause_at a source job ≡ Ok tt
 copy_has_no_cause source dest job a b copy = ap (cause_of job) copy.from ∙ whole_bytes job _ copy.whole
-
-pub failed_least : (source dest : List ℕ) (jobs : List Job) (i : ℕ) (job : Job) (cause : Cause) (fault : JobFault) (a b : Option Tree) → source ≢ dest → i < length jobs → ((d : Job) → get_or jobs i d ≡ job)
-    → fault ≡ record { job = job.number; cause = cause } → Told (AreCarried source dest jobs i) a b → IfSome b (λ t. CauseBy (is_free_cause cause) cause (cause_at t source job)) → IfSome a (λ t. IsLeast source t jobs fault)
-failed_least source dest jobs i job cause fault None b apart lt here is so ends = tt
-failed_least source dest jobs i job cause fault (Some a) None apart lt here is so ends = absurd so
-failed_least source dest jobs i job cause fault (Some a) (Some b) apart lt here is so ends =
-    subst (IsLeast source a jobs) (sym is) (record {
-      place = i;
-      within = lt;
-      number = λ d. ap (λ j. j.number) (sym (here d));
-      before = λ k d h. copy_has_no_cause source dest _ a b (so.copies k d h);
-      cause = λ d. subst (λ j. CauseBy (is_free_cause cause) cause (cause_at a source j)) (sym (here d))
-          (subst (CauseBy (is_free_cause cause) cause) (ap (cause_of job) (source_same source dest job.digest a b apart so.kept)) ends);
-    })
 
 -- ---- the least job that fails, by the list of all jobs
 
@@ -130,7 +78,7 @@ fault_at source t (suc k) (job ∷ jobs) d e lt each c =
     ap (λ r. or_next job.number r (first_fault t source jobs)) (each zero job (omega arith))
     ∙ fault_at source t k jobs d e (omega arith) (next_each (λ job. cause_at t source job ≡ Ok tt) job jobs k each) c
 
-no_job : Job
+pub no_job : Job
 no_job = record { number = 0; digest = []; size = 0 }
 
 -- what the loop over the jobs found is what the definition says
@@ -143,8 +91,16 @@ least_fault source t jobs fault least = by fault.cause (least.cause no_job)
     by : (c : Cause) → CauseBy (is_free_cause c) c (cause_at t source (get_or jobs least.place no_job)) → Refuses {A = Unit {0}} (by_cause fault.job c) (Some (first_fault t source jobs))
     by (why.Files n) says = tt
     by why.Memory says = tt
-    by (why.Absent digest) says = at (why.Absent digest) says
-    by (why.Mismatch m) says = at (why.Mismatch m) says
+    by (why.TlsRequired host) says = at (why.TlsRequired host) says
+    by (why.BlobMismatch m) says = at (why.BlobMismatch m) says
+    by (why.BlobAbsent digest) says = at (why.BlobAbsent digest) says
+    by (why.DestRefused step code) says = at (why.DestRefused step code) says
+    by (why.TooLarge what length) says = at (why.TooLarge what length) says
+    by (why.BadAnswer step bytes) says = at (why.BadAnswer step bytes) says
+    by (why.SourceRefused step code) says = at (why.SourceRefused step code) says
+    by (why.Encoded step) says = at (why.Encoded step) says
+    by (why.TooManyRedirects step) says = at (why.TooManyRedirects step) says
+    by (why.Wire n) says = at (why.Wire n) says
 
 -- the same where the trees are told
 pub least_answers : (source : List ℕ) (seen : Option Tree) (jobs : List Job) (fault : JobFault) → IfSome seen (λ t. IsLeast source t jobs fault) → Refuses {A = Unit {0}} (by_fault fault) (blobs_at seen source jobs)
@@ -152,8 +108,10 @@ unfolding blobs_at
 least_answers source None jobs fault least = unsaid (Err (by_fault fault))
 least_answers source (Some t) jobs fault least = least_fault source t jobs fault least
 
-pub whole_answers : (source dest : List ℕ) (seen new : Option Tree) (jobs : List Job) → Told (AreCarried source dest jobs (length jobs)) seen new → Answers (Ok tt) (blobs_at seen source jobs)
+-- where each job was copied
+pub whole_answers : (source dest : List ℕ) (seen new : Option Tree) (jobs : List Job) → Told (OnlyBlobs dest) seen new
+    → ((k : ℕ) (d : Job) → k < length jobs → Told (λ a b. IsCopyOf source dest a b (get_or jobs k d)) seen new) → Answers (Ok tt) (blobs_at seen source jobs)
 unfolding blobs_at
-whole_answers source dest None new jobs so = tt
-whole_answers source dest (Some t) None jobs so = absurd so
-whole_answers source dest (Some t) (Some n) jobs so = no_fault source t jobs (λ k d h. copy_has_no_cause source dest _ t n (so.copies k d h))
+whole_answers source dest None new jobs kept copies = tt
+whole_answers source dest (Some t) None jobs kept copies = absurd kept
+whole_answers source dest (Some t) (Some n) jobs kept copies = no_fault source t jobs (λ k d h. copy_has_no_cause source dest _ t n (copies k d h))

@@ -1,7 +1,13 @@
 pub mod OutcomeLemmas
+pub mod FirstLemmas
 pub mod SourceLemmas
+pub mod ReadyLemmas
+pub mod JobLemmas
 pub mod GateLemmas
+pub mod ReportLemmas
 pub mod CarryLemmas
 pub mod CarryingLemmas
+pub mod LaneLemmas
+pub mod SecureLemmas
 pub mod WriteLemmas
 pub mod CopyLemmas

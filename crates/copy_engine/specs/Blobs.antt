@@ -6,9 +6,11 @@ use Rattle.skopeo_outside.specs.Tree.{Tree, file_at}
 use Rattle.digest_reader.specs.declared.job.Job.{Job}
 use Rattle.digest_reader.specs.Digests.{digest}
 use Rattle.layouts.specs.Paths.{blob_path}
-use Rattle.copy_engine.specs.declared.refusal.Cause.{Cause}
-use Rattle.copy_engine.specs.declared.refusal.BlobMismatch.{BlobMismatch}
-use Rattle.copy_engine.specs.declared.refusal.Cause.TheVariants.{Mismatch, Absent, Files, Memory}
+use Rattle.layouts.specs.declared.fault.LayoutFault.{LayoutFault}
+use Rattle.layouts.specs.declared.fault.LayoutFault.TheVariants as fault
+use Rattle.copy_workers.specs.declared.cause.Cause.{Cause}
+use Rattle.copy_workers.specs.declared.cause.BlobMismatch.{BlobMismatch}
+use Rattle.copy_workers.specs.declared.cause.Cause.TheVariants as why
 use Rattle.skopeo_outside.specs.declared.stop.Stop.{Stop}
 use Rattle.skopeo_outside.specs.declared.stop.Stop.TheVariants as stop
 use Rattle.copy_engine.specs.declared.refusal.Refusal.{Refusal}
@@ -38,11 +40,11 @@ abbrev pub mismatch_of : Job → List ℕ → BlobMismatch
 mismatch_of job bytes = record { expected = job.digest; size = job.size; found = digest bytes; length = length bytes }
 
 abbrev pub cause_of_bytes : Job → List ℕ → Result ⊤ Cause
-cause_of_bytes job bytes = if is_whole job bytes then Ok tt else Err (Mismatch (mismatch_of job bytes))
+cause_of_bytes job bytes = if is_whole job bytes then Ok tt else Err (why.BlobMismatch (mismatch_of job bytes))
 
 -- why a job fails by the file in its blob's place: absent, or other bytes among those that are looked at
 abbrev pub cause_of : Job → Option (List ℕ) → Result ⊤ Cause
-cause_of job None = Err (Absent job.digest)
+cause_of job None = Err (why.BlobAbsent job.digest)
 cause_of job (Some bytes) = cause_of_bytes job (take (limit_of job) bytes)
 
 abbrev pub cause_at : Tree → List ℕ → Job → Result ⊤ Cause
@@ -50,8 +52,13 @@ cause_at t source job = cause_of job (file_at t (blob_path source job.digest))
 
 -- the cause that a stopped call of files is
 abbrev pub stopped_cause : Stop → ℕ → Cause
-stopped_cause stop.Fault count = Files count
-stopped_cause stop.Memory count = Memory
+stopped_cause stop.Fault count = why.Files count
+stopped_cause stop.Memory count = why.Memory
+
+-- the cause that a stopped call of a folder's layer is
+abbrev pub folder_cause : LayoutFault → ℕ → Cause
+folder_cause fault.Files count = why.Files count
+folder_cause _ count = why.Memory
 
 -- the bytes are those that are looked at of the file in the blob's place, and they are whole
 pub record IsFrontOf (tree : Tree) (source : List ℕ) (job : Job) (bytes : List ℕ) : Type 0 where

@@ -5,18 +5,14 @@ use Rattle.image_ref.specs.Digest.{IsDigest}
 use Rattle.digest_reader.specs.declared.job.Job.{Job}
 use Rattle.layouts.specs.Paths.{blob_path, version_path}
 use Rattle.layouts.specs.Trees.{OnlyBlobs, SameOrGone}
-use Rattle.copy_engine.specs.declared.refusal.Cause.{Cause}
-use Rattle.copy_engine.specs.declared.carrying.JobFault.{JobFault}
+use Rattle.copy_workers.specs.declared.cause.Cause.{Cause}
+use Rattle.copy_workers.specs.declared.receipt.JobFault.{JobFault}
 use Rattle.copy_engine.specs.Blobs.{IsWhole, limit_of, cause_at}
 use Rattle.copy_engine.specs.Outcome.{is_free_cause}
 
 -- each of the first jobs
 abbrev pub Each : (Job → Type 0) → List Job → ℕ → Type 0
 Each P jobs count = (k : ℕ) (d : Job) → k < count → P (slice_index_or jobs k d)
-
--- no two jobs have one digest
-abbrev pub AreDistinct : List Job → Type 0
-AreDistinct jobs = (j k : ℕ) (d : Job) → j < k → k < length jobs → (slice_index_or jobs j d).digest ≢ (slice_index_or jobs k d).digest
 
 -- the source's blob was whole, and what was looked at of it stands in the destination
 pub record IsCopyOf (source dest : List ℕ) (old new : Tree) (job : Job) : Type 0 where
@@ -32,6 +28,12 @@ pub record IsCarried (source dest : List ℕ) (job : Job) (old new : Tree) : Typ
   pub others : (q : List ℕ) → q ≢ blob_path dest job.digest → SameOrGone old new q
   pub version : file_at new (version_path dest) ≡ file_at old (version_path dest)
   pub blobs : (q : List ℕ) → ((digest : List ℕ) × (q ≡ blob_path dest digest)) → q ≢ blob_path dest job.digest → file_at new q ≡ file_at old q
+  pub kept : OnlyBlobs dest old new
+
+-- a blob was not written whole; each blob, each manifest and `version` are as they were
+pub record IsCut (dest : List ℕ) (old new : Tree) : Type 0 where
+  pub blobs : (digest : List ℕ) → file_at new (blob_path dest digest) ≡ file_at old (blob_path dest digest)
+  pub version : file_at new (version_path dest) ≡ file_at old (version_path dest)
   pub kept : OnlyBlobs dest old new
 
 -- the first jobs were copied; every file but their blobs is as it was or gone

@@ -4,8 +4,14 @@ pub mod Gate
 pub mod Source
 pub mod Blobs
 pub mod Carried
-pub mod Delivered
-pub mod Headline
 pub mod Report
+pub mod Delivered
+pub mod Written
+pub mod Lanes
+pub mod Lane
+pub mod Receipts
+pub mod Ready
+pub mod Headline
 pub mod ImageEnd
 pub mod Calls
+pub mod Run

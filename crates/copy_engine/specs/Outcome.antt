@@ -2,8 +2,8 @@
 use Rattle.std.specs.Prelude.{◌≡◌, ℕ, Bool, true, false, Option, Some, None, Result, Ok, Err, IfSome}
 use Rattle.skopeo_outside.specs.declared.stop.Stop.{Stop}
 use Rattle.skopeo_outside.specs.declared.stop.Stop.TheVariants as stop
-use Rattle.copy_engine.specs.declared.refusal.Cause.{Cause}
-use Rattle.copy_engine.specs.declared.refusal.Cause.TheVariants as cause
+use Rattle.copy_workers.specs.declared.cause.Cause.{Cause}
+use Rattle.copy_workers.specs.declared.cause.Cause.TheVariants as cause
 use Rattle.copy_engine.specs.declared.refusal.Refusal.{Refusal}
 use Rattle.copy_engine.specs.declared.refusal.Refusal.TheVariants.{Job, Files, Memory}
 
@@ -34,6 +34,13 @@ is_free Memory = true
 is_free (Files count) = true
 is_free (Job number reason) = is_free_cause reason
 is_free _ = false
+
+-- a refusal that comes ahead of the destination's first change
+abbrev pub is_ahead : Refusal → Bool
+is_ahead Memory = false
+is_ahead (Files count) = false
+is_ahead (Job number reason) = false
+is_ahead _ = true
 
 -- a refusal that an outcome may have
 abbrev pub RefusesBy : {A : Type 0} → Bool → Refusal → Outcome A → Type 0

@@ -1,16 +1,17 @@
 // One blob from a folder into another.
 ghost use Rattle.std.specs.Prelude.{◌≡◌, ◌≢◌, ℕ, true, length, OnOk, OnErr, IfOk, IfErr, IfSome};
 ghost use Rattle.skopeo_outside.specs.Outside.{HasCause, Told};
+ghost use Rattle.layouts.specs.Faults.{is_free};
 ghost use Rattle.layouts.specs.Paths.{blob_path, blob_part};
 ghost use Rattle.layouts.specs.Trees.{OnlyAt, OnlyBlobs, IsPut};
-ghost use Rattle.copy_engine.specs.Blobs.{limit_of, cause_of_bytes, cause_at, stopped_cause, IsFrontOf};
+ghost use Rattle.copy_engine.specs.Blobs.{limit_of, cause_of_bytes, cause_at, stopped_cause, folder_cause, IsFrontOf};
 ghost use Rattle.copy_engine.specs.Outcome.{is_free_cause};
-ghost use Rattle.copy_engine.specs.Carried.{IsCarried, EndsBy};
+ghost use Rattle.copy_engine.specs.Carried.{IsCarried, IsCut, EndsBy};
 ghost use Rattle.copy_engine.specs.Calls.{JobCause};
 
-use crate::refusal::{BlobMismatch, Cause};
+use copy_workers::{BlobMismatch, Cause};
 use digest_reader::{Job, digest_of};
-use layouts::{blob_part, blob_path, put_file, read_front};
+use layouts::{DirImage, LayoutFault, blob_path, read_front};
 use skopeo_outside::{Files, Many, Stop};
 use std::alloc::Global;
 
@@ -33,7 +34,7 @@ fn compare(job: &Job, bytes: &[u8]) -> Result<(), Cause>
     if length == job.size && found == job.digest {
         return Ok(());
     }
-    Err(Cause::Mismatch(BlobMismatch {
+    Err(Cause::BlobMismatch(BlobMismatch {
         expected: job.digest,
         size: job.size,
         found,
@@ -67,7 +68,7 @@ fn read_whole<F: Files>(
     let path = blob_path(alloc, source, &job.digest)?;
     match read_front(alloc, files, path.as_str(), limit_for(job)) {
         Err(stop) => Err(stopped(stop, files.faults())),
-        Ok(None) => Err(Cause::Absent(job.digest)),
+        Ok(None) => Err(Cause::BlobAbsent(job.digest)),
         Ok(Some(bytes)) => {
             compare(job, bytes.as_slice())?;
             Ok(bytes)
@@ -75,11 +76,23 @@ fn read_whole<F: Files>(
     }
 }
 
-/// Writes a blob under its part's name, and then names it.
-fn put_blob<F: Files>(
+/// The cause that a stopped call of a folder's layer is.
+fn stopped_in(fault: LayoutFault, faults: u64) -> Cause
+    requires { is_free fault ≡ true }
+    ensures { result ≡ folder_cause fault faults }
+{
+    match fault {
+        LayoutFault::Files => Cause::Files(faults),
+        LayoutFault::Memory => Cause::Memory,
+        _ => unreachable!(),
+    }
+}
+
+/// Writes a blob into a folder under the lane's name of its part, and then names it.
+fn place_blob<F: Files>(
     alloc: Global,
     files: &mut F,
-    dest: &str,
+    dest: &DirImage,
     lane: u32,
     job: &Job,
     bytes: &[u8],
@@ -89,30 +102,28 @@ fn put_blob<F: Files>(
     ensures free { IfErr result (λ e. is_free_cause e ≡ true) }
     ensures cause { JobCause (F.faults files.old) (F.faults files.new) result }
 {
-    let part = blob_part(alloc, dest, &job.digest, lane)?;
-    let path = blob_path(alloc, dest, &job.digest)?;
-    match put_file(files, part.as_str(), path.as_str(), bytes) {
-        Err(stop) => Err(stopped(stop, files.faults())),
+    match dest.put_blob(alloc, files, lane, job, bytes) {
+        Err(fault) => Err(stopped_in(fault, files.faults())),
         Ok(()) => Ok(()),
     }
 }
 
-/// Copies one blob: it is read whole and compared before anything of it is written.
-pub fn carry<F: Files>(
+/// Copies one blob into a folder: it is read whole and compared before anything of it is written.
+pub fn carry_blob<F: Files>(
     alloc: Global,
     files: &mut F,
     source: &str,
-    dest: &str,
+    dest: &DirImage,
     lane: u32,
     job: &Job,
 ) -> Result<(), Cause>
     ensures carried { OnOk result (Told (IsCarried source.now dest.now job.now) (F.tree files.old) (F.tree files.new)) }
-    ensures kept { OnErr result (Told (OnlyBlobs dest.now) (F.tree files.old) (F.tree files.new)) }
+    ensures cut { OnErr result (Told (IsCut dest.now) (F.tree files.old) (F.tree files.new)) }
     ensures ends { IfSome (F.tree files.old) (λ t. EndsBy result (cause_at t source.now job.now)) }
     ensures cause { JobCause (F.faults files.old) (F.faults files.new) result }
 {
     let _digest = job.digest.as_bytes();
-    let bytes = read_whole(alloc, files, source, job)?;
-    put_blob(alloc, files, dest, lane, job, bytes.as_slice())?;
+    let whole = read_whole(alloc, files, source, job)?;
+    place_blob(alloc, files, dest, lane, job, whole.as_slice())?;
     Ok(())
 }

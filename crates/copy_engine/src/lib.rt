@@ -3,18 +3,22 @@
 
 mod admit;
 mod carry;
-mod carrying;
 mod copy;
 mod gate;
+mod lane;
 mod plan;
+mod prepare;
+mod ready;
 mod refusal;
 mod report;
+mod secure;
 mod source;
 mod write;
 
-pub use admit::Admitted;
-pub use carrying::JobFault;
 pub use copy::copy_image;
+pub use copy_workers::{BlobMismatch, Cause};
 pub use plan::{CopyPlan, folder_in, is_folder};
-pub use refusal::{BlobMismatch, Cause, Part, Refusal, Why, stopped};
-pub use report::Copied;
+pub use ready::Ready;
+pub use refusal::{Part, Refusal, Why, stopped};
+pub use report::{Copied, CopiedRow};
+pub use write::write_manifest;

@@ -12,3 +12,6 @@ pub mod ListingLemmas
 pub mod ClearLemmas
 pub mod DestinationLemmas
 pub mod ReplaceLemmas
+pub mod SignatureLaw
+pub mod ReplaceLaw
+pub mod SignedLemmas

@@ -1,13 +1,12 @@
 // An image in a folder of its own.
-ghost use Rattle.std.specs.Prelude.{◌≡◌, IfOk, IfSome, OnOk, OnErr, IsErrOf, Ok, false, length, option_map};
+ghost use Rattle.std.specs.Prelude.{◌≡◌, IfOk, IfErr, IfSome, OnOk, OnErr, Ok, false, true, length, option_map};
 ghost use Rattle.skopeo_outside.specs.Outside.{Told};
 ghost use Rattle.skopeo_outside.specs.Folders.{joined};
 ghost use Rattle.layouts.specs.Paths.{blob_path, blob_part};
 ghost use Rattle.layouts.specs.Trees.{IsPut, OnlyAt};
 ghost use Rattle.layouts.specs.Names.{IsDir, IsDirOf, prefix_of, manifest_name, part_name};
-ghost use Rattle.layouts.specs.Faults.{Answers, StopsFreely, LayoutCause};
+ghost use Rattle.layouts.specs.Faults.{Answers, StopsFreely, LayoutCause, is_free, is_of_dir};
 ghost use Rattle.layouts.specs.Source.{IsManifest, AreSignaturesIn};
-ghost use Rattle.layouts.specs.declared.fault.LayoutFault.TheVariants as fault;
 ghost use Rattle.layouts.specs.Destination.{JudgesDestination, IsReady, IsHalfReady};
 ghost use Rattle.layouts.specs.Written.{IsNamed, AreSigned, AreSignedInPart};
 
@@ -52,6 +51,13 @@ impl DirImage {
         }
     }
 
+    /// The folder's path.
+    pub fn folder(&self) -> &str
+        ensures { result.now ≡ self.now }
+    {
+        self.folder.as_str()
+    }
+
     /// Where the blob of this digest stands. Its error is want of memory.
     pub fn blob_path(&self, alloc: Global, digest: &Digest) -> Result<Text, Memory>
         ensures { IfOk result (λ path. path ≡ blob_path self.now digest.now) }
@@ -77,6 +83,7 @@ impl DirImage {
         files: &mut F,
     ) -> Result<Fetched, LayoutFault>
         ensures read { IfSome (F.tree files.old) (λ t. Answers (IsManifest t self.now) result) }
+        ensures of_dir { IfErr result (λ e. is_of_dir e ≡ true) }
         ensures same { F.tree files.new ≡ F.tree files.old }
         ensures cause { LayoutCause (F.faults files.old) (F.faults files.new) result }
     {
@@ -94,6 +101,7 @@ impl DirImage {
     ) -> Result<Many<Many<u8>>, LayoutFault>
         ensures read { let digest = option_map (λ d. d.now) instance.entry in
             IfSome (F.tree files.old) (λ t. Answers (AreSignaturesIn t self.now digest) result) }
+        ensures of_dir { IfErr result (λ e. is_of_dir e ≡ true) }
         ensures same { F.tree files.new ≡ F.tree files.old }
         ensures cause { LayoutCause (F.faults files.old) (F.faults files.new) result }
     {
@@ -108,7 +116,8 @@ impl DirImage {
         ensures judged { IfSome (F.tree files.old) (λ t. Answers (JudgesDestination t self.now) result) }
         ensures ready { OnOk result (Told (IsReady self.now) (F.tree files.old) (F.tree files.new)) }
         ensures kept { OnErr result (Told (IsHalfReady self.now) (F.tree files.old) (F.tree files.new)) }
-        ensures refused { IsErrOf result fault.NotAnImageDir → F.tree files.new ≡ F.tree files.old }
+        ensures of_dir { IfErr result (λ e. is_of_dir e ≡ true) }
+        ensures refused { IfErr result (λ e. is_free e ≡ false → F.tree files.new ≡ F.tree files.old) }
         ensures cause { LayoutCause (F.faults files.old) (F.faults files.new) result }
     {
         prepare_dir(alloc, files, self.folder.as_str())

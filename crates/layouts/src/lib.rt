@@ -18,7 +18,7 @@ pub use folder::{is_occupied, prepare};
 pub use image::DirImage;
 pub use paths::{blob_part, blob_path, in_folder};
 pub use put::put_file;
-pub use read::{Limited, limit, read_bounded, read_front, read_limited};
+pub use read::{Limited, limit, read_front, read_limited};
 
 #[cfg(test)]
 mod tests;

@@ -4,7 +4,7 @@ ghost use Rattle.std.specs.Option.{option_map};
 ghost use Rattle.skopeo_outside.specs.Outside.{HasCause};
 ghost use Rattle.skopeo_outside.specs.Tree.{file_at};
 ghost use Rattle.layouts.specs.Pieces.{AddsPiece};
-ghost use Rattle.layouts.specs.Bounds.{limit, limited, bounded};
+ghost use Rattle.layouts.specs.Bounds.{limit, limited};
 
 use skopeo_outside::{Files, Many, Stop};
 use std::alloc::{AllocError, Global};
@@ -78,8 +78,11 @@ pub fn limit() -> usize
 /// A file that may not be too long, or why there is none.
 #[derive(Debug, Drop)]
 pub enum Limited {
+    /// There is no file.
     Absent,
+    /// The file has more bytes than it may.
     TooLong,
+    /// All bytes of the file.
     Whole(Many<u8>),
 }
 
@@ -103,22 +106,5 @@ pub fn read_limited<F: Files>(alloc: Global, files: &mut F, path: &str) -> Resul
     match read_front(alloc, files, path, limit() + 1)? {
         Some(bytes) => Ok(within(bytes)),
         None => Ok(Limited::Absent),
-    }
-}
-
-/// The same, with `None` for what is no file or longer.
-pub fn read_bounded<F: Files>(
-    alloc: Global,
-    files: &mut F,
-    path: &str,
-) -> Result<Option<Many<u8>>, Stop>
-    ensures bytes { IfSome (F.tree files.old) (λ t. IfOk result (λ answer. answer ≡ bounded (file_at t path.now))) }
-    ensures same { F.tree files.new ≡ F.tree files.old }
-    ensures cause { HasCause (F.faults files.old) (F.faults files.new) result }
-{
-    match read_limited(alloc, files, path)? {
-        Limited::Absent => Ok(None),
-        Limited::TooLong => Ok(None),
-        Limited::Whole(bytes) => Ok(Some(bytes)),
     }
 }

@@ -41,9 +41,9 @@ fn fault_text(alloc: Global, fault: LayoutFault) -> Result<String, Fail> {
     Ok(format!(in alloc; "{fault:?}")?)
 }
 
-/// The length of a manifest of so many bytes, none where that is 0, or the fault.
-fn manifest_told(alloc: Global, count: usize) -> Result<String, Fail> {
-    let mut files = failing(alloc, 0)?;
+/// The length of a manifest of so many bytes, none where that is 0, or the fault, where a call fails.
+fn manifest_told(alloc: Global, count: usize, call: u64) -> Result<String, Fail> {
+    let mut files = failing(alloc, call)?;
     if count > 0 {
         files
             .shelf
@@ -65,7 +65,24 @@ fn reads_a_manifest_within_its_limit(rt: HostRuntime) -> Result<(), Fail> {
         (4_194_305, "TooLarge(Manifest, 4194305)"),
     ];
     for (count, expected) in rows {
-        let found = manifest_told(rt.alloc(), count)?;
+        let found = manifest_told(rt.alloc(), count, 0)?;
+        assert_eq!(rt; found.as_str(), expected);
+    }
+    Ok(())
+}
+
+/// Each read of a manifest fails in turn: of one that is there, the second finds its end.
+#[test]
+fn tells_a_failing_read_of_a_manifest(rt: HostRuntime) -> Result<(), Fail> {
+    let rows = [
+        (0, 1, "Files"),
+        (0, 2, "NotAnImageDir"),
+        (3, 1, "Files"),
+        (3, 2, "Files"),
+        (3, 3, "3"),
+    ];
+    for (count, call, expected) in rows {
+        let found = manifest_told(rt.alloc(), count, call)?;
         assert_eq!(rt; found.as_str(), expected);
     }
     Ok(())
@@ -117,6 +134,35 @@ fn reads_signatures_within_their_limits(rt: HostRuntime) -> Result<(), Fail> {
         add_signature(rt.alloc(), &mut files, other, length)?;
         let found = signatures_told(rt.alloc(), &mut files, None)?;
         assert_eq!(rt; found.as_str(), expected);
+    }
+    Ok(())
+}
+
+/// Sixteen signatures as long as one may be are as long as all may be; with a byte more they are too long.
+#[test]
+fn reads_signatures_within_their_limit_together(rt: HostRuntime) -> Result<(), Fail> {
+    let mut files = failing(rt.alloc(), 0)?;
+    for k in 0..16usize {
+        add_signature(rt.alloc(), &mut files, k + 1, 4_194_304)?;
+    }
+    let found = signatures_told(rt.alloc(), &mut files, None)?;
+    assert_eq!(rt; found.as_str(), "16");
+    add_signature(rt.alloc(), &mut files, 17, 1)?;
+    let found = signatures_told(rt.alloc(), &mut files, None)?;
+    assert_eq!(rt; found.as_str(), "TooLarge(SignatureBytes, 67108865)");
+    Ok(())
+}
+
+/// Each read of two signatures fails in turn: two reads for each, and one that finds no third.
+#[test]
+fn tells_a_failing_read_of_a_signature(rt: HostRuntime) -> Result<(), Fail> {
+    for call in 1..7u64 {
+        let mut files = failing(rt.alloc(), call)?;
+        add_signature(rt.alloc(), &mut files, 1, 3)?;
+        add_signature(rt.alloc(), &mut files, 2, 3)?;
+        let found = signatures_told(rt.alloc(), &mut files, None)?;
+        let expected = if call < 6 { "Files" } else { "2" };
+        assert_eq!(rt; found.as_str(), expected, "{call}");
     }
     Ok(())
 }
@@ -291,8 +337,12 @@ fn leaves_no_manifest_without_its_blobs(rt: HostRuntime) -> Result<(), Fail> {
     for call in 1..12u64 {
         let mut files = failing(rt.alloc(), call)?;
         add_old(&mut files)?;
-        let ended = image.prepare(rt.alloc(), &mut files);
-        assert_eq!(rt; ended.is_ok(), call == 11, "{call}");
+        let told = match image.prepare(rt.alloc(), &mut files) {
+            Ok(()) => String::new(rt.alloc()),
+            Err(fault) => fault_text(rt.alloc(), fault)?,
+        };
+        let expected = if call < 11 { "Files" } else { "" };
+        assert_eq!(rt; told.as_str(), expected, "{call}");
         assert!(rt; !is_torn(&files), "{call}");
         assert_eq!(rt; files.shelf.get("/w/d/version"), Some(VERSION));
     }

@@ -7,21 +7,22 @@ use Rattle.manifest_v2s2.specs.declared.image.Image.{Image}
 use Rattle.manifest_v2s2.specs.declared.kind.Kind.TheVariants.{V2s2}
 use Rattle.manifest_v2s2.specs.Image.{image_of}
 use Rattle.manifest_convert.specs.Blobs.{blobs}
-use Rattle.layouts.specs.Paths.{manifest_path, first_signature}
+use Rattle.layouts.specs.Paths.{manifest_path}
+use Rattle.layouts.specs.Source.{numbered, signatures_in}
+use Rattle.layouts.specs.Destination.{may_replace}
 use Rattle.layouts.specs.Bounds.{limited}
 use Rattle.layouts.specs.declared.read.Limited.TheVariants.{Whole}
 use Rattle.manifest_convert.specs.Kinds.{kind_of}
-use Rattle.layouts.specs.Occupied.{is_occupied}
 use Rattle.policy_file.specs.PolicyLists.{PolicyLists}
 use Rattle.policy_scope.specs.Chosen.{chosen}
-use Rattle.copy_engine.specs.declared.refusal.Cause.TheVariants as cause
+use Rattle.copy_workers.specs.declared.cause.Cause.TheVariants as cause
 use Rattle.copy_engine.specs.declared.refusal.Refusal.TheVariants as image
 use Rattle.copy_engine.specs.Plan.{source_of, dest_of}
 use Rattle.copy_engine.specs.Gate.{judged_by}
-use Rattle.copy_engine.specs.Source.{manifest_at, kind_in, image_in, unsigned_at}
+use Rattle.copy_engine.specs.Source.{manifest_at, kind_in, image_in, signatures_at}
 use Rattle.copy_engine.specs.Blobs.{first_fault, blobs_at}
 use Rattle.copy_engine.specs.Report.{copied_of}
-use Rattle.copy_engine.specs.ImageEnd.{admitted, vacant_at, image_end}
+use Rattle.copy_engine.specs.ImageEnd.{admitted, ready_at, written_at, image_end}
 use Rattle.skopeo_app.specs.declared.refusal.CommandRefusal.{CommandRefusal}
 use Rattle.skopeo_app.specs.declared.refusal.CommandRefusal.TheVariants.{Words, Reference, SamePlace, NotBuilt, PolicyMissing, PolicyInvalid, PolicyTooLarge, Image as OfImage, Output}
 use Rattle.skopeo_app.specs.declared.run.Done.{Done}
@@ -49,8 +50,16 @@ wanted_is (Err (OfImage (image.NotAnImageDir path))) w before after said causes 
 wanted_is (Err (OfImage (image.TooLarge what length))) w before after said causes files out memory = sym said
 wanted_is (Err (OfImage (image.ManifestInvalid member))) w before after said causes files out memory = sym said
 wanted_is (Err (OfImage (image.Rejected scope place why))) w before after said causes files out memory = sym said
-wanted_is (Err (OfImage (image.Job number (cause.Mismatch m)))) w before after said causes files out memory = sym said
-wanted_is (Err (OfImage (image.Job number (cause.Absent d)))) w before after said causes files out memory = sym said
+wanted_is (Err (OfImage (image.Job number (cause.TlsRequired host)))) w before after said causes files out memory = sym said
+wanted_is (Err (OfImage (image.Job number (cause.BlobMismatch m)))) w before after said causes files out memory = sym said
+wanted_is (Err (OfImage (image.Job number (cause.BlobAbsent d)))) w before after said causes files out memory = sym said
+wanted_is (Err (OfImage (image.Job number (cause.DestRefused step code)))) w before after said causes files out memory = sym said
+wanted_is (Err (OfImage (image.Job number (cause.TooLarge what length)))) w before after said causes files out memory = sym said
+wanted_is (Err (OfImage (image.Job number (cause.BadAnswer step bytes)))) w before after said causes files out memory = sym said
+wanted_is (Err (OfImage (image.Job number (cause.SourceRefused step code)))) w before after said causes files out memory = sym said
+wanted_is (Err (OfImage (image.Job number (cause.Encoded step)))) w before after said causes files out memory = sym said
+wanted_is (Err (OfImage (image.Job number (cause.TooManyRedirects step)))) w before after said causes files out memory = sym said
+wanted_is (Err (OfImage (image.Job number (cause.Wire n)))) w before after said causes files out memory = sym said
 wanted_is (Err (OfImage (image.Job number (cause.Files n)))) w before after said causes files out memory = absurd (files (causes.files n refl).0)
 wanted_is (Err (OfImage (image.Job number cause.Memory))) w before after said causes files out memory = absurd (memory refl)
 wanted_is (Err (OfImage (image.Files n))) w before after said causes files out memory = absurd (files (causes.files n refl).0)
@@ -63,13 +72,14 @@ pub ends_as_defined : (words : List (List ℕ)) (home cwd : List ℕ) (before af
 ends_as_defined words home cwd before after err_before err_after code w e is files out memory =
     wanted_is e.answer w before after (subst (λ o. Answers e.answer o) is e.is.wanted) e.is.causes files out (λ s. memory (e.status ∙ s))
 
--- words that ask for a copy between two folders, a policy whose list for the source holds, a source with a manifest and whole
--- blobs, and an empty destination are a copy
-pub good_copy : (words : List (List ℕ)) (home cwd : List ℕ) (t : Tree) (task : CopyTask) (policy : PolicyLists) (bytes : List ℕ) (image : Image)
+-- words that ask for a copy between two folders, a policy whose list for the source holds, a source with a manifest, with
+-- signatures that are not too much and with whole blobs, and a destination in which nothing stands or an image are a copy
+pub good_copy : (words : List (List ℕ)) (home cwd : List ℕ) (t : Tree) (task : CopyTask) (policy : PolicyLists) (bytes : List ℕ) (image : Image) (signatures : List (List ℕ))
     → task_of words cwd ≡ Ok (Copy task) → policy_at (Some t) home cwd task.policy ≡ Some (Ok policy) → judged_by (chosen policy task.plan.source) ≡ Ok tt
-    → limited (file_at t (manifest_path (source_of task.plan))) ≡ Whole bytes → kind_of [] (tree bytes) ≡ Ok V2s2 → image_of V2s2 (tree bytes) ≡ Ok image → file_at t (first_signature (source_of task.plan)) ≡ None
-    → is_occupied t (dest_of task.plan) ≡ false → first_fault t (source_of task.plan) (blobs image) ≡ Ok tt
-    → ending words home cwd (Some t) ≡ Some (Ok (copy_done task.quiet (copied_of (record { manifest = bytes; jobs = blobs image }))))
-unfolding ending copy_end image_of_task image_end admitted manifest_at kind_in image_in unsigned_at vacant_at blobs_at
-good_copy words home cwd t task policy bytes image is counts holds manifest kind picture signature empty whole =
-    rw (is, counts, manifest, kind, picture, signature, holds, empty, whole) refl
+    → limited (file_at t (manifest_path (source_of task.plan))) ≡ Whole bytes → kind_of [] (tree bytes) ≡ Ok V2s2 → image_of V2s2 (tree bytes) ≡ Ok image
+    → signatures_in (numbered t (source_of task.plan) []) ≡ Ok signatures
+    → may_replace t (dest_of task.plan) ≡ true → first_fault t (source_of task.plan) (blobs image) ≡ Ok tt
+    → ending words home cwd (Some t) ≡ Some (Ok (copy_done task.quiet (copied_of (record { manifest = bytes; jobs = blobs image; signatures = signatures }))))
+unfolding ending copy_end image_of_task image_end admitted manifest_at kind_in image_in signatures_at written_at ready_at blobs_at
+good_copy words home cwd t task policy bytes image signatures is counts holds manifest kind picture signed empty whole =
+    rw (is, counts, manifest, kind, picture, signed, holds, empty, whole) refl

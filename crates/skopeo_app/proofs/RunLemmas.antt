@@ -7,8 +7,9 @@ use Rattle.skopeo_outside.specs.Outside.{Told, HasPrefixOf}
 use Rattle.layouts.specs.declared.read.Limited.{Limited}
 use Rattle.layouts.specs.declared.read.Limited.TheVariants.{Absent, TooLong, Whole}
 use Rattle.layouts.specs.Bounds.{limited, limit, whole_of}
-use Rattle.layouts.specs.Trees.{SameManifests, OnlyIn, OnlyBlobs}
+use Rattle.layouts.specs.Trees.{OnlyIn, WritesNoManifest}
 use Rattle.layouts.proofs.FolderLemmas.{no_change_in}
+use Rattle.layouts.proofs.ReplaceLemmas.{none_at_all}
 use Rattle.policy_file.specs.PolicyLists.{PolicyLists, accepting}
 use Rattle.policy_file.specs.PolicyOf.{policy_in}
 use Rattle.policy_file.proofs.PolicyLaw.{read_says}
@@ -17,7 +18,7 @@ use Rattle.policy_file.specs.declared.fault.PolicyFault.TheVariants as fault
 use Rattle.copy_engine.specs.declared.report.Copied.{Copied}
 use Rattle.copy_engine.specs.declared.refusal.Refusal.TheVariants as image
 use Rattle.copy_engine.specs.Plan.{source_of, dest_of}
-use Rattle.copy_engine.specs.Delivered.{IsDelivered}
+use Rattle.copy_engine.specs.Delivered.{Delivers}
 use Rattle.copy_engine.specs.Headline.{ImageHeadline}
 use Rattle.copy_engine.proofs.CopyLemmas.{bounded_is}
 use Rattle.skopeo_app.specs.declared.refusal.CommandRefusal.{CommandRefusal}
@@ -28,13 +29,13 @@ use Rattle.skopeo_app.specs.declared.task.PolicyChoice.{PolicyChoice}
 use Rattle.skopeo_app.specs.declared.task.PolicyChoice.TheVariants.{Anything, Named, Usual}
 use Rattle.skopeo_app.specs.declared.task.Task.{Task}
 use Rattle.skopeo_app.specs.declared.task.Task.TheVariants.{Page, Copy}
-use Rattle.skopeo_app.specs.Outcome.{Outcome, Answers, Refuses, files_count, output_count, is_of_words}
+use Rattle.skopeo_app.specs.Outcome.{Outcome, Answers, Refuses, files_count, output_count, is_ahead, is_of_words}
 use Rattle.skopeo_app.specs.Task.{task_of}
 use Rattle.skopeo_app.specs.Policy.{or_invalid, policy_from, policy_file, usual_path, policy_at}
 use Rattle.skopeo_app.specs.Ending.{page_done, copy_done, image_of_task, copy_end, task_end, ending}
 use Rattle.skopeo_app.specs.Lines.{out_lines}
 use Rattle.skopeo_app.specs.Headline.{SaysPolicy, Counts, Headline, Frame}
-use Rattle.skopeo_app.specs.Calls.{SinkSeen, Seen, FilesCause, OutputCause, HasCauses, HasFailed, IsOfOutput, IsEarly, IsBefore, TaskHeadline, IsAt, IsCopyAnswer, IsPage, IsOfWords, Delivers, IsAnswer, IsRun}
+use Rattle.skopeo_app.specs.Calls.{SinkSeen, Seen, FilesCause, OutputCause, HasCauses, HasFailed, IsOfOutput, IsEarly, IsBefore, NoNewManifests, LeavesTree, TaskHeadline, IsAt, IsCopyAnswer, IsPage, IsOfWords, IsAtNamed, IsAnswer, IsRun}
 use Rattle.skopeo_app.proofs.OutcomeLemmas.{unsaid, then_answers, then_refuses}
 
 -- ---- the policy that counts
@@ -74,24 +75,24 @@ pub none_written : (home cwd : List ℕ) (task : CopyTask) (x : Option Tree) →
 none_written home cwd task None = tt
 none_written home cwd task (Some t) = λ path bytes w. absurd (w.changed w.stands)
 
-pub same_kept : (folder : List ℕ) (x : Option Tree) → Told (OnlyBlobs folder) x x
+pub same_kept : (folder : List ℕ) (x : Option Tree) → Told (WritesNoManifest folder) x x
 same_kept folder None = tt
-same_kept folder (Some t) = no_change_in folder t
+same_kept folder (Some t) = none_at_all folder t
 
-kept_in : (folder : List ℕ) (x y : Option Tree) → Told (OnlyBlobs folder) x y → Told (OnlyIn folder) x y
+kept_in : (folder : List ℕ) (x y : Option Tree) → Told (WritesNoManifest folder) x y → Told (OnlyIn folder) x y
 kept_in folder None y k = tt
 kept_in folder (Some a) None k = k
 kept_in folder (Some a) (Some b) k = k.outside
 
-kept_manifests : (folder : List ℕ) (x y : Option Tree) → Told (OnlyBlobs folder) x y → Told SameManifests x y
+kept_manifests : (folder : List ℕ) (x y : Option Tree) → Told (WritesNoManifest folder) x y → Told NoNewManifests x y
 kept_manifests folder None y k = tt
 kept_manifests folder (Some a) None k = k
 kept_manifests folder (Some a) (Some b) k = k.manifests
 
-delivered_in : (task : CopyTask) (copied : Copied) (x y : Option Tree) → Told (IsDelivered (source_of task.plan) (dest_of task.plan) copied.image) x y → Told (OnlyIn (dest_of task.plan)) x y
+delivered_in : (task : CopyTask) (copied : Copied) (x y : Option Tree) → Told (Delivers (source_of task.plan) (dest_of task.plan) copied.rows) x y → Told (OnlyIn (dest_of task.plan)) x y
 delivered_in task copied None y d = tt
 delivered_in task copied (Some a) None d = d
-delivered_in task copied (Some a) (Some b) d = d.outside
+delivered_in task copied (Some a) (Some b) d = d.delivered.outside
 
 -- ---- what was printed
 
@@ -130,6 +131,25 @@ of_output_refuses w (NotBuilt p) of = absurd of
 of_output_refuses w (PolicyMissing p) of = absurd of
 of_output_refuses w (PolicyInvalid p k m) of = absurd of
 of_output_refuses w PolicyTooLarge of = absurd of
+
+-- such a refusal comes behind the first change
+of_output_behind : (x y : Option Tree) (e : CommandRefusal) → IsOfOutput e → is_ahead e ≡ true → y ≡ x
+of_output_behind x y (Image image.Memory) of ahead = let no : false ≡ true = ahead in cc
+of_output_behind x y (Image (image.Files n)) of ahead = absurd of
+of_output_behind x y (Image (image.Job k c)) of ahead = absurd of
+of_output_behind x y (Image (image.NotBuilt p)) of ahead = absurd of
+of_output_behind x y (Image (image.NotAnImageDir p)) of ahead = absurd of
+of_output_behind x y (Image (image.TooLarge q n)) of ahead = absurd of
+of_output_behind x y (Image (image.ManifestInvalid m)) of ahead = absurd of
+of_output_behind x y (Image (image.Rejected s n w)) of ahead = absurd of
+of_output_behind x y (Output n) of ahead = let no : false ≡ true = ahead in cc
+of_output_behind x y (Words p k) of ahead = absurd of
+of_output_behind x y (Reference t f) of ahead = absurd of
+of_output_behind x y (SamePlace p) of ahead = absurd of
+of_output_behind x y (NotBuilt p) of ahead = absurd of
+of_output_behind x y (PolicyMissing p) of ahead = absurd of
+of_output_behind x y (PolicyInvalid p k m) of ahead = absurd of
+of_output_behind x y PolicyTooLarge of ahead = absurd of
 
 of_output_late : (e : CommandRefusal) → IsOfOutput e → IsEarly e → ⊥
 of_output_late (Image image.Memory) of early = early
@@ -183,16 +203,17 @@ output_causes before after e cause = record {
 
 -- before anything was printed
 pub copy_refused : (home cwd : List ℕ) (task : CopyTask) (before after : Seen) (e : CommandRefusal) → after.out.bytes ≡ before.out.bytes
-    → Told (TaskHeadline home cwd task) before.tree after.tree → Told (OnlyBlobs (dest_of task.plan)) before.tree after.tree
+    → Told (TaskHeadline home cwd task) before.tree after.tree → Told (WritesNoManifest (dest_of task.plan)) before.tree after.tree → LeavesTree {A = Copied} (Err e) before.tree after.tree
     → Refuses {A = Copied} e (image_of_task home cwd before.tree task) → FilesCause {A = Copied} before.faults after.faults (Err e) → IsCopyAnswer home cwd task before after (Err e)
 unfolding copy_end
-copy_refused home cwd task before after e out headline kept said cause = record {
+copy_refused home cwd task before after e out headline kept same said cause = record {
   headline = headline;
   frame = kept_in (dest_of task.plan) before.tree after.tree kept;
   wanted = then_refuses (image_of_task home cwd before.tree task) (λ copied. Some (Ok (copy_done task.quiet copied))) e said;
   other = cause.other;
   causes = files_causes before after e cause;
   early = λ b. kept_manifests (dest_of task.plan) before.tree after.tree kept;
+  untouched = same;
   there = tt;
   printed = tt;
   silent = λ b. out;
@@ -206,7 +227,7 @@ copy_said home cwd task seen copied said = then_answers (image_of_task home cwd 
 
 -- the lines could not be printed
 pub copy_unprinted : (home cwd : List ℕ) (task : CopyTask) (copied : Copied) (done : Done) (before after : Seen) (e : CommandRefusal) → done ≡ copy_done task.quiet copied
-    → Told (TaskHeadline home cwd task) before.tree after.tree → Told (IsDelivered (source_of task.plan) (dest_of task.plan) copied.image) before.tree after.tree
+    → Told (TaskHeadline home cwd task) before.tree after.tree → Told (Delivers (source_of task.plan) (dest_of task.plan) copied.rows) before.tree after.tree
     → Answers (Ok copied) (image_of_task home cwd before.tree task)
     → IsOfOutput e → HasFailed before.out after.out → OutputCause {A = Unit {0}} before.out.faults after.out.faults (Err e) → Told (HasPrefixOf done.lines) before.out.bytes after.out.bytes
     → IsCopyAnswer home cwd task before after (Err e)
@@ -217,6 +238,7 @@ copy_unprinted home cwd task copied done before after e is headline there said o
   other = of_output_other e of;
   causes = output_causes before after e cause;
   early = λ b. absurd (late before after e of failed b);
+  untouched = of_output_behind before.tree after.tree e of;
   there = tt;
   printed = tt;
   silent = λ b. absurd (late before after e of failed b);
@@ -224,14 +246,14 @@ copy_unprinted home cwd task copied done before after e is headline there said o
       (subst (λ d. Told (HasPrefixOf d.lines) before.out.bytes after.out.bytes) is part);
 }
 
-at_end : (task : CopyTask) (copied : Copied) (x y : Option Tree) → Told (IsDelivered (source_of task.plan) (dest_of task.plan) copied.image) x y → Told (IsAt task (Some copied.image)) x y
+at_end : (task : CopyTask) (copied : Copied) (x y : Option Tree) → Told (Delivers (source_of task.plan) (dest_of task.plan) copied.rows) x y → Told (IsAt task (Some copied.rows)) x y
 at_end task copied None y d = tt
 at_end task copied (Some a) None d = d
 at_end task copied (Some a) (Some b) d = d
 
 -- the image was copied and its lines were printed
 pub copy_printed : (home cwd : List ℕ) (task : CopyTask) (copied : Copied) (done : Done) (before after : Seen) → done ≡ copy_done task.quiet copied
-    → Told (TaskHeadline home cwd task) before.tree after.tree → Told (IsDelivered (source_of task.plan) (dest_of task.plan) copied.image) before.tree after.tree
+    → Told (TaskHeadline home cwd task) before.tree after.tree → Told (Delivers (source_of task.plan) (dest_of task.plan) copied.rows) before.tree after.tree
     → Answers (Ok copied) (image_of_task home cwd before.tree task) → after.out.bytes ≡ option_map (λ o. o ++ done.lines) before.out.bytes → IsCopyAnswer home cwd task before after (Ok done)
 copy_printed home cwd task copied done before after is headline there said printed = subst (λ d. IsCopyAnswer home cwd task before after (Ok d)) (sym is) (record {
   headline = headline;
@@ -240,6 +262,7 @@ copy_printed home cwd task copied done before after is headline there said print
   other = tt;
   causes = record { files = tt; output = tt };
   early = tt;
+  untouched = tt;
   there = at_end task copied before.tree after.tree there;
   printed = lines;
   silent = tt;
@@ -260,9 +283,9 @@ same_frame : (words : List (List ℕ)) (cwd : List ℕ) (x y : Option Tree) → 
 same_frame words cwd None y e = tt
 same_frame words cwd (Some t) y e = subst (λ z. Told (Frame words cwd) (Some t) z) (sym e) (record { inside = λ task is. (no_change_in (dest_of task.plan) t).outside; unnamed = λ none. refl })
 
-same_manifests : (x y : Option Tree) → y ≡ x → Told SameManifests x y
+same_manifests : (x y : Option Tree) → y ≡ x → Told NoNewManifests x y
 same_manifests None y e = tt
-same_manifests (Some t) y e = subst (λ z. Told SameManifests (Some t) z) (sym e) (λ path m. refl)
+same_manifests (Some t) y e = subst (λ z. Told NoNewManifests (Some t) z) (sym e) (λ path m. inl refl)
 
 of_words_said : (words : List (List ℕ)) (cwd : List ℕ) (e : CommandRefusal) → Refuses {A = Task} e (Some (task_of words cwd)) → is_of_words e ≡ true → task_of words cwd ≡ Err e
 of_words_said words cwd (Words p k) said of = said
@@ -287,6 +310,7 @@ words_refused words home cwd before after e tree out said files output = record 
     of_words = of_words_said words cwd e said;
     causes = record { files = λ n q. absurd (no_count _ n files q); output = λ n q. absurd (no_count _ n output q) };
     early = λ b. same_manifests before.tree after.tree tree;
+    untouched = λ ahead. tree;
     there = tt;
     printed = tt;
     silent = λ b. out;
@@ -301,9 +325,9 @@ task_said words home cwd seen task r is said = then_answers (Some (task_of words
 not_copy : (words : List (List ℕ)) (cwd text : List ℕ) (task : CopyTask) → task_of words cwd ≡ Ok (Page text) → task_of words cwd ≡ Ok (Copy task) → ⊥
 not_copy words cwd text task a b = let x : ◌≡◌ {A = Result Task CommandRefusal} (Ok (Page text)) (Ok (Copy task)) = sym a ∙ b in cc
 
-nowhere : (words : List (List ℕ)) (cwd text : List ℕ) (x y : Option Tree) → y ≡ x → task_of words cwd ≡ Ok (Page text) → Told (Delivers words cwd (page_done text)) x y
+nowhere : (words : List (List ℕ)) (cwd text : List ℕ) (x y : Option Tree) → y ≡ x → task_of words cwd ≡ Ok (Page text) → Told (IsAtNamed words cwd (page_done text)) x y
 nowhere words cwd text None y e is = tt
-nowhere words cwd text (Some t) y e is = subst (λ z. Told (Delivers words cwd (page_done text)) (Some t) z) (sym e) (λ task copy. tt)
+nowhere words cwd text (Some t) y e is = subst (λ z. Told (IsAtNamed words cwd (page_done text)) (Some t) z) (sym e) (λ task copy. tt)
 
 page_end : (words : List (List ℕ)) (home cwd text : List ℕ) (before after : Seen) (r : Result Done CommandRefusal) → task_of words cwd ≡ Ok (Page text) → after.tree ≡ before.tree → IsPage text before.out after.out r → IsRun words home cwd before after r
 page_end words home cwd text before after (Ok done) is tree page = subst (λ d. IsRun words home cwd before after (Ok d)) (sym page.is) (record {
@@ -314,6 +338,7 @@ page_end words home cwd text before after (Ok done) is tree page = subst (λ d. 
     of_words = tt;
     causes = record { files = tt; output = tt };
     early = tt;
+    untouched = tt;
     there = nowhere words cwd text before.tree after.tree tree is;
     printed = page.printed;
     silent = tt;
@@ -331,6 +356,7 @@ page_end words home cwd text before after (Err e) is tree page = record {
     of_words = λ of. let x : false ≡ true = sym (of_output_other e page.only) ∙ of in cc;
     causes = output_causes before after e page.cause;
     early = λ b. absurd (late before after e page.only page.failed b);
+    untouched = λ ahead. tree;
     there = tt;
     printed = tt;
     silent = λ b. absurd (late before after e page.only page.failed b);
@@ -361,10 +387,10 @@ framed words cwd task (Some a) (Some b) is only = record {
   unnamed = λ none. absurd (none task is);
 }
 
-delivers : (words : List (List ℕ)) (cwd : List ℕ) (task : CopyTask) (done : Done) (x y : Option Tree) → task_of words cwd ≡ Ok (Copy task) → Told (IsAt task done.image) x y → Told (Delivers words cwd done) x y
+delivers : (words : List (List ℕ)) (cwd : List ℕ) (task : CopyTask) (done : Done) (x y : Option Tree) → task_of words cwd ≡ Ok (Copy task) → Told (IsAt task done.rows) x y → Told (IsAtNamed words cwd done) x y
 delivers words cwd task done None y is d = tt
 delivers words cwd task done (Some a) None is d = d
-delivers words cwd task done (Some a) (Some b) is d = λ other copy. subst (λ t. IsAt t done.image a b) (one_task task other (sym is ∙ copy)) d
+delivers words cwd task done (Some a) (Some b) is d = λ other copy. subst (λ t. IsAt t done.rows a b) (one_task task other (sym is ∙ copy)) d
 
 same_end : (words : List (List ℕ)) (home cwd : List ℕ) (seen : Option Tree) (task : Task) → task_of words cwd ≡ Ok task → ending words home cwd seen ≡ task_end home cwd seen task
 unfolding ending
@@ -374,7 +400,7 @@ not_of_words : (words : List (List ℕ)) (cwd : List ℕ) (r : Result Done Comma
 not_of_words words cwd (Ok done) other = tt
 not_of_words words cwd (Err e) other = λ of. let x : false ≡ true = sym other ∙ of in cc
 
-delivers_of : (words : List (List ℕ)) (cwd : List ℕ) (task : CopyTask) (x y : Option Tree) (r : Result Done CommandRefusal) → task_of words cwd ≡ Ok (Copy task) → IfOk r (λ done. Told (IsAt task done.image) x y) → IfOk r (λ done. Told (Delivers words cwd done) x y)
+delivers_of : (words : List (List ℕ)) (cwd : List ℕ) (task : CopyTask) (x y : Option Tree) (r : Result Done CommandRefusal) → task_of words cwd ≡ Ok (Copy task) → IfOk r (λ done. Told (IsAt task done.rows) x y) → IfOk r (λ done. Told (IsAtNamed words cwd done) x y)
 delivers_of words cwd task x y (Ok done) is d = delivers words cwd task done x y is d
 delivers_of words cwd task x y (Err e) is d = tt
 
@@ -388,6 +414,7 @@ copy_told words home cwd task before after r is copy = record {
     of_words = not_of_words words cwd r copy.other;
     causes = copy.causes;
     early = copy.early;
+    untouched = copy.untouched;
     there = delivers_of words cwd task before.tree after.tree r is copy.there;
     printed = copy.printed;
     silent = copy.silent;

@@ -46,6 +46,7 @@ memory_answer words home cwd before after e is = record {
   of_words = λ e. let x : false ≡ true = e in cc;
   causes = record { files = λ n e. let x : None ≡ Some n = e in cc; output = λ n e. let x : None ≡ Some n = e in cc };
   early = λ b. is.early (unfailed b);
+  untouched = λ ahead. let no : false ≡ true = ahead in cc;
   there = tt;
   printed = tt;
   silent = λ b. is.silent (unfailed b);

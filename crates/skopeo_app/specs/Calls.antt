@@ -2,20 +2,23 @@
 use Rattle.std.specs.Prelude.{◌≡◌, ◌≤◌, ◌⊎◌, ◌++◌, List, ℕ, true, false, Option, Some, None, Result, Ok, Err, IfErr, IfOk, OnErr, IfSome}
 use Rattle.std.specs.Option.{option_map}
 use Rattle.skopeo_outside.specs.Tree.{Tree}
+use Rattle.skopeo_outside.specs.declared.lane.Lane.{Lane}
 use Rattle.skopeo_outside.specs.Outside.{Rose, Told, HasPrefixOf}
-use Rattle.layouts.specs.Trees.{SameManifests, OnlyIn}
+use Rattle.layouts.specs.Paths.{IsManifestPath}
+use Rattle.layouts.specs.Trees.{SameOrGone, OnlyIn}
 use Rattle.policy_file.specs.PolicyLists.{PolicyLists}
-use Rattle.copy_engine.specs.declared.admit.Admitted.{Admitted}
+use Rattle.copy_engine.specs.declared.report.CopiedRow.{CopiedRow}
 use Rattle.copy_engine.specs.declared.refusal.Refusal.TheVariants as image
 use Rattle.copy_engine.specs.Plan.{source_of, dest_of}
-use Rattle.copy_engine.specs.Delivered.{IsDelivered}
+use Rattle.copy_engine.specs.Lanes.{tree_at, faults_at}
+use Rattle.copy_engine.specs.Delivered.{Delivers}
 use Rattle.copy_engine.specs.Headline.{IsWrite, IsCopied}
 use Rattle.skopeo_app.specs.declared.refusal.CommandRefusal.{CommandRefusal}
 use Rattle.skopeo_app.specs.declared.refusal.CommandRefusal.TheVariants as refusal
 use Rattle.skopeo_app.specs.declared.run.Done.{Done}
 use Rattle.skopeo_app.specs.declared.task.CopyTask.{CopyTask}
 use Rattle.skopeo_app.specs.declared.task.Task.TheVariants.{Copy}
-use Rattle.skopeo_app.specs.Outcome.{Answers, files_count, output_count, is_of_words}
+use Rattle.skopeo_app.specs.Outcome.{Answers, files_count, output_count, is_ahead, is_of_words}
 use Rattle.skopeo_app.specs.Task.{task_of}
 use Rattle.skopeo_app.specs.Lines.{status_of, status_of_refusal, refusal_line, out_lines, err_lines}
 use Rattle.skopeo_app.specs.Ending.{page_done, copy_end, ending}
@@ -37,6 +40,10 @@ pub record Seen : Type 0 where
   pub tree : Option Tree
   pub faults : ℕ
   pub out : SinkSeen
+
+-- what the first of the lanes tells, beside the output
+abbrev pub first_seen : {W F : Type 0} → (F → Option Tree) → (F → ℕ) → List (Lane W F) → SinkSeen → Seen
+first_seen tree faults lanes out = record { tree = tree_at tree lanes 0; faults = faults_at faults lanes 0; out = out }
 
 -- ---- causes
 
@@ -87,9 +94,17 @@ IsEarly _ = Unit {0}
 abbrev pub IsBefore : Seen → Seen → CommandRefusal → Type 0
 IsBefore before after e = IsEarly e ⊎ (HasFailed before.out after.out → ⊥)
 
--- such a refusal leaves each manifest as it was
-abbrev pub LeavesManifests : {A : Type 0} → Seen → Seen → Result A CommandRefusal → Type 0
-LeavesManifests before after result = IfErr result (λ e. IsBefore before after e → Told SameManifests before.tree after.tree)
+-- each manifest is as it was, or is gone
+abbrev pub NoNewManifests : Tree → Tree → Type 0
+NoNewManifests old new = (path : List ℕ) → IsManifestPath path → SameOrGone old new path
+
+-- such a refusal leaves no new manifest
+abbrev pub WritesNone : {A : Type 0} → Seen → Seen → Result A CommandRefusal → Type 0
+WritesNone before after result = IfErr result (λ e. IsBefore before after e → Told NoNewManifests before.tree after.tree)
+
+-- a refusal that comes ahead of the first change of a file leaves all as it was
+abbrev pub LeavesTree : {A : Type 0} → Result A CommandRefusal → Option Tree → Option Tree → Type 0
+LeavesTree result old new = IfErr result (λ e. is_ahead e ≡ true → new ≡ old)
 
 -- and nothing was printed
 abbrev pub IsSilent : {A : Type 0} → Seen → Seen → Result A CommandRefusal → Type 0
@@ -106,10 +121,10 @@ abbrev pub TaskHeadline : List ℕ → List ℕ → CopyTask → Tree → Tree �
 TaskHeadline home cwd task old new = (path bytes : List ℕ) → IsWrite old new path bytes
     → (policy : PolicyLists) × Counts old home cwd task.policy policy × IsCopied policy task.plan old new path bytes
 
--- the image of an answer stands at the task's destination, and every other file is as it was
-abbrev pub IsAt : CopyTask → Option Admitted → Tree → Tree → Type 0
+-- the source's image, which the rows of an answer tell, stands at the task's destination and nothing else in it
+abbrev pub IsAt : CopyTask → Option (List CopiedRow) → Tree → Tree → Type 0
 IsAt task None old new = Unit {0}
-IsAt task (Some image) old new = IsDelivered (source_of task.plan) (dest_of task.plan) image old new
+IsAt task (Some rows) old new = Delivers (source_of task.plan) (dest_of task.plan) rows old new
 
 -- what holds of the answer of one copy
 pub record IsCopyAnswer (home cwd : List ℕ) (task : CopyTask) (before after : Seen) (answer : Result Done CommandRefusal) : Type 0 where
@@ -118,8 +133,9 @@ pub record IsCopyAnswer (home cwd : List ℕ) (task : CopyTask) (before after : 
   pub wanted : Answers answer (copy_end home cwd before.tree task)
   pub other : IfErr answer (λ e. is_of_words e ≡ false)
   pub causes : HasCauses before after answer
-  pub early : LeavesManifests before after answer
-  pub there : IfOk answer (λ done. Told (IsAt task done.image) before.tree after.tree)
+  pub early : WritesNone before after answer
+  pub untouched : LeavesTree answer before.tree after.tree
+  pub there : IfOk answer (λ done. Told (IsAt task done.rows) before.tree after.tree)
   pub printed : IsPrinted before after answer
   pub silent : IsSilent before after answer
   pub part : IfSome (copy_end home cwd before.tree task) (λ w. Told (HasPrefixOf (out_lines w)) before.out.bytes after.out.bytes)
@@ -140,17 +156,18 @@ pub record IsPage (text : List ℕ) (before after : SinkSeen) (answer : Result D
 abbrev pub IsOfWords : {A : Type 0} → Result A CommandRefusal → List (List ℕ) → List ℕ → Type 0
 IsOfWords result words cwd = IfErr result (λ e. is_of_words e ≡ true → task_of words cwd ≡ Err e)
 
--- the image of an answer stands at the destination that the words name, and every other file is as it was
-abbrev pub Delivers : List (List ℕ) → List ℕ → Done → Tree → Tree → Type 0
-Delivers words cwd done old new = (task : CopyTask) → task_of words cwd ≡ Ok (Copy task) → IsAt task done.image old new
+-- the image of an answer stands at the destination that the words name, and nothing else in it
+abbrev pub IsAtNamed : List (List ℕ) → List ℕ → Done → Tree → Tree → Type 0
+IsAtNamed words cwd done old new = (task : CopyTask) → task_of words cwd ≡ Ok (Copy task) → IsAt task done.rows old new
 
 -- what holds of an answer before it is told
 pub record IsAnswer (words : List (List ℕ)) (home cwd : List ℕ) (before after : Seen) (answer : Result Done CommandRefusal) : Type 0 where
   pub wanted : Answers answer (ending words home cwd before.tree)
   pub of_words : IsOfWords answer words cwd
   pub causes : HasCauses before after answer
-  pub early : LeavesManifests before after answer
-  pub there : IfOk answer (λ done. Told (Delivers words cwd done) before.tree after.tree)
+  pub early : WritesNone before after answer
+  pub untouched : LeavesTree answer before.tree after.tree
+  pub there : IfOk answer (λ done. Told (IsAtNamed words cwd done) before.tree after.tree)
   pub printed : IsPrinted before after answer
   pub silent : IsSilent before after answer
 

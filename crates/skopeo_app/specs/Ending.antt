@@ -13,11 +13,11 @@ use Rattle.skopeo_app.specs.Policy.{policy_at}
 
 -- a text that is printed
 abbrev pub page_done : List ℕ → Done
-page_done text = record { image = None; lines = text }
+page_done text = record { rows = None; lines = text }
 
 -- an image that was copied; a quiet copy prints nothing
 abbrev pub copy_done : Bool → Copied → Done
-copy_done quiet copied = record { image = Some copied.image; lines = if quiet then [] else copied.lines }
+copy_done quiet copied = record { rows = Some copied.rows; lines = if quiet then [] else copied.lines }
 
 -- one copy: its policy, and then the image
 unfoldable pub image_of_task : List ℕ → List ℕ → Option Tree → CopyTask → Outcome Copied

@@ -3,6 +3,6 @@ pub mod Task
 pub mod Policy
 pub mod Ending
 pub mod Headline
+pub mod JobLines
 pub mod Lines
-pub mod Lanes
 pub mod Calls

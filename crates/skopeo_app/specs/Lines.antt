@@ -1,11 +1,6 @@
 -- The lines of refusals, the texts on both outputs, and the status.
 use Rattle.std.specs.Prelude.{◌++◌, List, [], ℕ, codes, Option, Some, None, Result, Ok, Err}
 use Rattle.std.specs.Fmt.{decimal}
-use Rattle.serde_json.specs.Data.{string}
-use Rattle.skopeo_outside.specs.declared.words.What.{What}
-use Rattle.skopeo_outside.specs.declared.words.What.TheVariants as what
-use Rattle.serde_json.specs.Written.{compact_text}
-use Rattle.image_ref.specs.Digest.{digest_text}
 use Rattle.image_ref.specs.Reading.{offset}
 use Rattle.image_ref.specs.declared.fault.RefFault.{RefFault}
 use Rattle.image_ref.specs.declared.fault.RefFault.TheVariants as ref
@@ -19,19 +14,15 @@ use Rattle.copy_engine.specs.declared.refusal.Part.{Part}
 use Rattle.copy_engine.specs.declared.refusal.Part.TheVariants as part
 use Rattle.copy_engine.specs.declared.refusal.Why.{Why}
 use Rattle.copy_engine.specs.declared.refusal.Why.TheVariants as why
-use Rattle.copy_engine.specs.declared.refusal.Cause.{Cause}
-use Rattle.copy_engine.specs.declared.refusal.Cause.TheVariants as cause
+use Rattle.copy_workers.specs.declared.cause.Cause.TheVariants as cause
 use Rattle.copy_engine.specs.declared.refusal.Refusal.{Refusal}
 use Rattle.copy_engine.specs.declared.refusal.Refusal.TheVariants as image
+use Rattle.skopeo_app.specs.JobLines.{json_text, what_word, cause_line}
 use Rattle.skopeo_app.specs.declared.run.Done.{Done}
 use Rattle.skopeo_app.specs.declared.refusal.Unbuilt.{Unbuilt}
 use Rattle.skopeo_app.specs.declared.refusal.Unbuilt.TheVariants as unbuilt
 use Rattle.skopeo_app.specs.declared.refusal.CommandRefusal.{CommandRefusal}
 use Rattle.skopeo_app.specs.declared.refusal.CommandRefusal.TheVariants as refusal
-
--- a text as a JSON text (RFC 8259, section 7)
-unfoldable pub json_text : List ℕ → List ℕ
-json_text text = compact_text (string text)
 
 -- what is not built, of the words and of an image
 abbrev pub unbuilt_word : Unbuilt → List ℕ
@@ -41,31 +32,7 @@ unbuilt_word unbuilt.Place = codes "place"
 
 abbrev pub part_word : Part → List ℕ
 part_word part.Policy = codes "policy"
-part_word part.Source = codes "source"
 part_word part.Manifest = codes "manifest"
-part_word part.Destination = codes "destination"
-
--- what there is too much of
-abbrev pub what_word : What → List ℕ
-what_word what.Policy = codes "policy"
-what_word what.Conf = codes "conf"
-what_word what.Cache = codes "cache"
-what_word what.Manifest = codes "manifest"
-what_word what.Index = codes "index"
-what_word what.Config = codes "config"
-what_word what.Signature = codes "signature"
-what_word what.Signatures = codes "signatures"
-what_word what.SignatureBytes = codes "signature-bytes"
-what_word what.Key = codes "key"
-what_word what.Keys = codes "keys"
-what_word what.Answer = codes "answer"
-what_word what.Head = codes "head"
-what_word what.Headers = codes "headers"
-what_word what.TagsPage = codes "tags-page"
-what_word what.Pages = codes "pages"
-what_word what.Tags = codes "tags"
-what_word what.Entries = codes "entries"
-what_word what.Folders = codes "folders"
 
 abbrev pub why_word : Why → List ℕ
 why_word why.Reject = codes "reject"
@@ -127,15 +94,6 @@ abbrev pub scope_text : Option (List ℕ) → List ℕ
 scope_text None = codes "default"
 scope_text (Some scope) = json_text scope
 
--- number, name and fields of a job's cause, the job's number first
-unfoldable pub cause_line : ℕ → Cause → List ℕ
-cause_line job (cause.Mismatch m) =
-    codes "skopeo: 26 BlobMismatch job=" ++ (decimal job ++ (codes " expected=" ++ (digest_text m.expected ++ (codes " size=" ++ (decimal m.size
-    ++ (codes " found=" ++ (digest_text m.found ++ (codes " length=" ++ (decimal m.length ++ codes "\n")))))))))
-cause_line job (cause.Absent digest) = codes "skopeo: 27 BlobAbsent job=" ++ (decimal job ++ (codes " digest=" ++ (digest_text digest ++ codes "\n")))
-cause_line job (cause.Files count) = codes "skopeo: 41 Files job=" ++ (decimal job ++ (codes " faults=" ++ (decimal count ++ codes "\n")))
-cause_line job cause.Memory = codes "skopeo: 4 OutOfMemory\n"
-
 -- the line of an image's refusal
 unfoldable pub image_line : Refusal → List ℕ
 image_line (image.NotBuilt what) = codes "skopeo: 39 NotBuilt what=" ++ (part_word what ++ codes "\n")
@@ -166,6 +124,7 @@ refusal_line (refusal.Output count) = codes "skopeo: 43 Output faults=" ++ (deci
 -- that failed, 4 for want of memory
 abbrev pub status_of_refusal : CommandRefusal → ℕ
 status_of_refusal (refusal.Words place kind) = 2
+status_of_refusal (refusal.Image (image.Job job (cause.Wire count))) = 3
 status_of_refusal (refusal.Image (image.Job job (cause.Files count))) = 3
 status_of_refusal (refusal.Image (image.Job job cause.Memory)) = 4
 status_of_refusal (refusal.Image (image.Files count)) = 3

@@ -36,6 +36,12 @@ is_free (Image e) = image.is_free e
 is_free (Output count) = true
 is_free _ = false
 
+-- a refusal that comes ahead of the first change of a file
+abbrev pub is_ahead : CommandRefusal → Bool
+is_ahead (Image e) = image.is_ahead e
+is_ahead (Output count) = false
+is_ahead _ = true
+
 -- a refusal of the words or of the places that they name
 abbrev pub is_of_words : CommandRefusal → Bool
 is_of_words (Words place kind) = true

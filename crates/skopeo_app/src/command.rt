@@ -2,9 +2,9 @@
 ghost use Rattle.std.specs.Prelude.{◌≡◌, IfSome, ℕ, map};
 ghost use Rattle.std.specs.String.{string_bytes};
 ghost use Rattle.skopeo_outside.specs.Outside.{Told};
-ghost use Rattle.skopeo_app.specs.Calls.{Seen, SinkSeen, sink_seen, Ends, Tells, Finishes};
+ghost use Rattle.skopeo_app.specs.Calls.{Seen, SinkSeen, sink_seen, first_seen, Ends, Tells, Finishes};
 ghost use Rattle.skopeo_app.specs.Headline.{Headline, Frame};
-ghost use Rattle.skopeo_app.specs.Lanes.{AreLanes, OnlyFirst, tree_at, faults_at};
+ghost use Rattle.copy_engine.specs.Lanes.{AreLanes, OnlyFirst, tree_at};
 
 use crate::lines::{refusal_line, status_of};
 use crate::refusal::CommandRefusal;
@@ -45,7 +45,7 @@ fn finish<E: Sink>(alloc: Global, err: &mut E, ended: &Result<Done, CommandRefus
 /// policy, the source or a blob is at fault, 2 for words, 3 where an object failed, and 4 for want of memory. `home` is the
 /// folder of the user, or empty, and `cwd` an absolute path.
 pub fn skopeo<R: Threads + Sync, W: Wire + Send, F: Files + Send, H: Helper, O: Sink, E: Sink>(
-    _rt: &R,
+    rt: &R,
     alloc: Global,
     words: &[String],
     home: &str,
@@ -62,20 +62,12 @@ pub fn skopeo<R: Threads + Sync, W: Wire + Send, F: Files + Send, H: Helper, O: 
     ensures rest { OnlyFirst lanes.old.items lanes.new.items }
     ensures helper { helper.new ≡ helper.old }
     ensures ends { Ends (map string_bytes words.now) home.now cwd.now
-        (record {
-          tree = tree_at F.tree lanes.old.items 0;
-          faults = faults_at F.faults lanes.old.items 0;
-          out = sink_seen O.written O.faults O.wants out.old;
-        })
-        (record {
-          tree = tree_at F.tree lanes.new.items 0;
-          faults = faults_at F.faults lanes.new.items 0;
-          out = sink_seen O.written O.faults O.wants out.new;
-        })
+        (first_seen F.tree F.faults lanes.old.items (sink_seen O.written O.faults O.wants out.old))
+        (first_seen F.tree F.faults lanes.new.items (sink_seen O.written O.faults O.wants out.new))
         (sink_seen E.written E.faults E.wants err.old)
         (sink_seen E.written E.faults E.wants err.new)
         result }
 {
-    let ended = run(alloc, words, home, cwd, &mut lanes[0].files, out);
+    let ended = run(rt, alloc, words, home, cwd, lanes, out);
     finish(alloc, err, &ended)
 }

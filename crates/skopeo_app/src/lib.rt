@@ -2,6 +2,7 @@
 #![tactic(auto)]
 
 mod command;
+mod job_lines;
 mod lines;
 mod policy;
 mod refusal;

@@ -3,26 +3,18 @@ ghost use Rattle.std.specs.Prelude.{◌≡◌, ◌++◌, ◌⊎◌, ℕ, List, O
 ghost use Rattle.std.specs.String.{string_bytes};
 ghost use Rattle.image_ref.specs.Reading.{offset};
 ghost use Rattle.skopeo_outside.specs.Outside.{HasCause, HasPrefixOf, Told};
-ghost use Rattle.skopeo_app.specs.Lines.{json_text, unbuilt_word, part_word, what_word, why_word, words_word, policy_word, reference_word, place_word, place_offset, scope_text, cause_line, image_line, refusal_line, status_of_refusal};
+ghost use Rattle.skopeo_app.specs.Lines.{unbuilt_word, part_word, why_word, words_word, policy_word, reference_word, place_word, place_offset, scope_text, image_line, refusal_line, status_of_refusal};
+ghost use Rattle.skopeo_app.specs.JobLines.{json_text, what_word, cause_line};
 ghost use Rattle.skopeo_app.specs.Calls.{SinkSeen, sink_seen, HasFailed, IsOfOutput, OutputCause};
 
+use crate::job_lines::{cause_line, json_text, what_word};
 use crate::refusal::{CommandRefusal, Unbuilt};
 use copy_engine::{Cause, Part, Refusal, Why};
 use image_ref::{PlaceFault, RefFault};
 use policy_file::PolicyKind;
-use serde_json::Value;
-use skopeo_outside::{Memory, Sink, Stop, Text, What};
+use skopeo_outside::{Memory, Sink, Stop, Text};
 use skopeo_words::WordsKind;
 use std::alloc::Global;
-
-/// A text as a JSON text (RFC 8259, section 7).
-#[tactic(auto, unfolding(crate::specs::Lines::json_text))]
-fn json_text(alloc: Global, text: &str) -> Result<String, Memory>
-    ensures { IfOk result (λ s. string_bytes s ≡ json_text text.now) }
-{
-    let value = Value::String(String::from_str(alloc, text)?);
-    Ok(value.to_string(alloc)?)
-}
 
 fn unbuilt_word(what: Unbuilt) -> &'static str
     ensures { result.now ≡ unbuilt_word what }
@@ -39,35 +31,7 @@ fn part_word(part: Part) -> &'static str
 {
     match part {
         Part::Policy => "policy",
-        Part::Source => "source",
         Part::Manifest => "manifest",
-        Part::Destination => "destination",
-    }
-}
-
-fn what_word(what: What) -> &'static str
-    ensures { result.now ≡ what_word what }
-{
-    match what {
-        What::Policy => "policy",
-        What::Conf => "conf",
-        What::Cache => "cache",
-        What::Manifest => "manifest",
-        What::Index => "index",
-        What::Config => "config",
-        What::Signature => "signature",
-        What::Signatures => "signatures",
-        What::SignatureBytes => "signature-bytes",
-        What::Key => "key",
-        What::Keys => "keys",
-        What::Answer => "answer",
-        What::Head => "head",
-        What::Headers => "headers",
-        What::TagsPage => "tags-page",
-        What::Pages => "pages",
-        What::Tags => "tags",
-        What::Entries => "entries",
-        What::Folders => "folders",
     }
 }
 
@@ -175,34 +139,6 @@ fn scope_text(alloc: Global, scope: &Option<Text>) -> Result<String, Memory>
     match scope {
         None => Ok(String::from_str(alloc, "default")?),
         Some(scope) => json_text(alloc, scope.as_str()),
-    }
-}
-
-#[tactic(auto, unfolding(crate::specs::Lines::cause_line))]
-fn cause_line(alloc: Global, job: u32, cause: &Cause) -> Result<String, Memory>
-    ensures { IfOk result (λ line. string_bytes line ≡ cause_line job cause.now) }
-{
-    match cause {
-        Cause::Mismatch(m) => {
-            let expected = m.expected.write_digest(alloc)?;
-            let found = m.found.write_digest(alloc)?;
-            let expected = expected.as_str();
-            let found = found.as_str();
-            let size = m.size;
-            let length = m.length;
-            Ok(format!(in alloc;
-                "skopeo: 26 BlobMismatch job={job} expected={expected} size={size} found={found} length={length}\n"
-            )?)
-        }
-        Cause::Absent(digest) => {
-            let digest = digest.write_digest(alloc)?;
-            let digest = digest.as_str();
-            Ok(format!(in alloc; "skopeo: 27 BlobAbsent job={job} digest={digest}\n")?)
-        }
-        Cause::Files(count) => {
-            Ok(format!(in alloc; "skopeo: 41 Files job={job} faults={count}\n")?)
-        }
-        Cause::Memory => Ok(String::from_str(alloc, "skopeo: 4 OutOfMemory\n")?),
     }
 }
 
@@ -321,8 +257,16 @@ pub fn status_of(refusal: &CommandRefusal) -> u8
         CommandRefusal::Image(Refusal::TooLarge(_, _)) => 1,
         CommandRefusal::Image(Refusal::ManifestInvalid(_)) => 1,
         CommandRefusal::Image(Refusal::Rejected(_, _, _)) => 1,
-        CommandRefusal::Image(Refusal::Job(_, Cause::Mismatch(_))) => 1,
-        CommandRefusal::Image(Refusal::Job(_, Cause::Absent(_))) => 1,
+        CommandRefusal::Image(Refusal::Job(_, Cause::TlsRequired(_))) => 1,
+        CommandRefusal::Image(Refusal::Job(_, Cause::BlobMismatch(_))) => 1,
+        CommandRefusal::Image(Refusal::Job(_, Cause::BlobAbsent(_))) => 1,
+        CommandRefusal::Image(Refusal::Job(_, Cause::DestRefused(_, _))) => 1,
+        CommandRefusal::Image(Refusal::Job(_, Cause::TooLarge(_, _))) => 1,
+        CommandRefusal::Image(Refusal::Job(_, Cause::BadAnswer(_, _))) => 1,
+        CommandRefusal::Image(Refusal::Job(_, Cause::SourceRefused(_, _))) => 1,
+        CommandRefusal::Image(Refusal::Job(_, Cause::Encoded(_))) => 1,
+        CommandRefusal::Image(Refusal::Job(_, Cause::TooManyRedirects(_))) => 1,
+        CommandRefusal::Image(Refusal::Job(_, Cause::Wire(_))) => 3,
         CommandRefusal::Image(Refusal::Job(_, Cause::Files(_))) => 3,
         CommandRefusal::Image(Refusal::Job(_, Cause::Memory)) => 4,
         CommandRefusal::Image(Refusal::Files(_)) => 3,

@@ -1,4 +1,5 @@
 // Commands over the forms in memory.
+mod destination;
 mod policy;
 mod source;
 mod words;
@@ -305,21 +306,6 @@ fn names_the_absent_blob(rt: HostRuntime) -> Result<(), Fail> {
         b"skopeo: 27 BlobAbsent job=2 digest=sha256:ba7816bf8f01cfea414140de5dae2223b00361a396177a9cb410ff61f20015ad\n".as_slice()
     );
     assert_eq!(rt; left.files.shelf.get("/w/dst/manifest.json"), None);
-    Ok(())
-}
-
-#[test]
-fn refuses_an_occupied_folder(rt: HostRuntime) -> Result<(), Fail> {
-    let mut files = no_files(rt.alloc());
-    add_source(rt.alloc(), &mut files, ONE, LAYER, b"abc")?;
-    files.shelf.add("/w/dst/x", b"kept")?;
-    let left = copy(&rt, files, ACCEPT)?;
-    assert_eq!(rt; left.status, 1);
-    assert_eq!(rt;
-        left.err.written.as_slice(),
-        b"skopeo: 39 NotBuilt what=destination\n".as_slice()
-    );
-    assert_eq!(rt; left.files.shelf.get("/w/dst/x"), Some(b"kept".as_slice()));
     Ok(())
 }
 

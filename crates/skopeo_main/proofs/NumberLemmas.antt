@@ -1,7 +1,7 @@
 -- Lanes that are made one after the other.
 use Rattle.std.proofs.Common.{◌≡◌, ◌+◌, ◌∷◌, ◌++◌, [], List, ℕ, zero, suc, length, Some, None, slice_get, sym, ap, ◌∙◌, arith}
 use Rattle.skopeo_outside.specs.declared.lane.Lane.{Lane}
-use Rattle.skopeo_app.specs.Lanes.{AreLanes}
+use Rattle.copy_engine.specs.Lanes.{AreLanes}
 use Rattle.skopeo_main.specs.Numbered.{AreNumberedFrom, AreNumbered}
 
 more_from : {W F : Type 0} (n : ℕ) (lanes : List (Lane W F)) (lane : Lane W F) → AreNumberedFrom n lanes → lane.number ≡ n + length lanes → AreNumberedFrom n (lanes ++ lane ∷ [])

@@ -2,7 +2,7 @@
 #![tactic(auto)]
 
 ghost use Rattle.std.specs.Prelude.{◌≡◌, ◌≤◌, IfOk};
-ghost use Rattle.skopeo_app.specs.Lanes.{AreLanes};
+ghost use Rattle.copy_engine.specs.Lanes.{AreLanes};
 
 mod begin;
 mod files;

@@ -86,7 +86,7 @@ fn page_word(page: Option<CommandName>) -> &'static str {
     }
 }
 
-fn push_command(line: &mut Text, command: &Command) -> Result<(), Memory> {
+fn push_copies(line: &mut Text, command: &Command) -> Result<(), Memory> {
     match command {
         Command::Copy {
             common,
@@ -122,6 +122,12 @@ fn push_command(line: &mut Text, command: &Command) -> Result<(), Memory> {
             push_operand(line, source)?;
             push_operand(line, base)
         }
+        _ => Ok(()),
+    }
+}
+
+fn push_single(line: &mut Text, command: &Command) -> Result<(), Memory> {
+    match command {
         Command::Inspect {
             common,
             short_names,
@@ -156,6 +162,12 @@ fn push_command(line: &mut Text, command: &Command) -> Result<(), Memory> {
             push_choice(line, " tls=", *tls)?;
             push_operand(line, image)
         }
+        _ => Ok(()),
+    }
+}
+
+fn push_other(line: &mut Text, command: &Command) -> Result<(), Memory> {
+    match command {
         Command::MakeImages {
             common,
             verifier,
@@ -177,12 +189,15 @@ fn push_command(line: &mut Text, command: &Command) -> Result<(), Memory> {
             line.push_str("version")?;
             Ok(())
         }
+        _ => Ok(()),
     }
 }
 
 // The command as a line.
 pub fn shown(alloc: Global, command: &Command) -> Result<Text, Memory> {
     let mut line = Text::new(alloc);
-    push_command(&mut line, command)?;
+    push_copies(&mut line, command)?;
+    push_single(&mut line, command)?;
+    push_other(&mut line, command)?;
     Ok(line)
 }

@@ -10,7 +10,8 @@ returns-in_err-copied g c =
     let r : ◌≡◌ {A = Result Done CommandRefusal} c.from_residual.result (Err c.in_err-copied.field-0.0) = search rules in
     record {
       copy = rw (r) (copy_refused c.args.home.now c.args.cwd.now c.args.task.now _ _ c.in_err-copied.field-0.0 refl
-          c.copy_named.ensures.headline c.in_err-copied.ensures.kept c.in_err-copied.ensures.answer c.in_err-copied.ensures.cause);
+          c.copy_named.ensures.headline c.in_err-copied.ensures.kept c.in_err-copied.ensures.untouched c.in_err-copied.ensures.answer c.in_err-copied.ensures.cause);
+      rest = c.copy_named.ensures.rest;
     }
 
 pub returns-in_err-print_lines : goal.returns-in_err-print_lines
@@ -22,6 +23,7 @@ returns-in_err-print_lines g c =
       copy = rw (r) (copy_unprinted c.args.home.now c.args.cwd.now c.args.task.now c.in_ok-copied.copied c.done_of-done.result _ _ c.in_err-print_lines.field-0.0 c.done_of-done.ensures
           c.copy_named.ensures.headline c.in_ok-copied.ensures.delivered c.in_ok-copied.ensures.answer
           c.in_err-print_lines.ensures.only c.in_err-print_lines.ensures.failed c.in_err-print_lines.ensures.cause part);
+      rest = c.copy_named.ensures.rest;
     }
 
 pub returns : goal.returns
@@ -30,4 +32,5 @@ returns g c =
     record {
       copy = copy_printed c.args.home.now c.args.cwd.now c.args.task.now c.in_ok-copied.copied c.done_of-done.result _ _ c.done_of-done.ensures
           c.copy_named.ensures.headline c.in_ok-copied.ensures.delivered c.in_ok-copied.ensures.answer (rw (← lines) c.in_ok-print_lines.ensures.printed);
+      rest = c.copy_named.ensures.rest;
     }
