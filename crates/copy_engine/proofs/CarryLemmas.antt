@@ -2,7 +2,7 @@
 use Rattle.std.proofs.Common.{◌≡◌, ◌≢◌, List, ℕ, ◌<◌, ◌^◌, ◌==◌, ◌&&◌, Bool, true, false, cond, length, take, Option, Some, None, Result, Ok, Err, IfSome, refl, sym, ap, subst, ◌∙◌, ◌⊎◌, inl, inr}
 use Rattle.std.specs.Option.{option_map}
 use Rattle.std.specs.Str.{bytes_eq}
-use Rattle.std.proofs.lemmas.Bool.{eq-eqb, eqb-true, cond-true}
+use Rattle.std.proofs.lemmas.Bool.{and_parts, eq-eqb, eqb-true, cond-true}
 use Rattle.std.proofs.lemmas.Slice.Eq.{bytes_eq-Decides}
 use Rattle.skopeo_outside.specs.Tree.{Tree, file_at}
 use Rattle.skopeo_outside.specs.Outside.{Told}
@@ -22,16 +22,12 @@ use Rattle.copy_engine.specs.Carried.{IsCarried, CauseBy}
 
 -- ---- the test of bytes
 
-and_true : (a b : Bool) → (a && b) ≡ true → (a ≡ true) × (b ≡ true)
-and_true true b e = (refl, e)
-and_true false b e = let no : false ≡ true = e in cc
-
 is_whole_true : (job : Job) (bytes : List ℕ) → IsWhole job bytes → is_whole job bytes ≡ true
 is_whole_true job bytes whole = ap (λ b. b && bytes_eq (digest bytes) job.digest) (eq-eqb _ _ whole.size) ∙ (bytes_eq-Decides (digest bytes) job.digest).1 whole.digest
 
 is_whole_from : (job : Job) (bytes : List ℕ) → is_whole job bytes ≡ true → IsWhole job bytes
 is_whole_from job bytes e =
-    let p : ((length bytes == job.size) ≡ true) × (bytes_eq (digest bytes) job.digest ≡ true) = and_true _ _ e in
+    let p : ((length bytes == job.size) ≡ true) × (bytes_eq (digest bytes) job.digest ≡ true) = and_parts _ _ e in
     record { size = eqb-true _ _ p.0; digest = (bytes_eq-Decides (digest bytes) job.digest).0 p.1 }
 
 -- bytes that are whole are no fault

@@ -23,6 +23,7 @@ use Rattle.copy_engine.specs.Blobs.{cause_of, cause_at}
 use Rattle.copy_engine.specs.Calls.{cause_count}
 use Rattle.copy_engine.specs.Carried.{IsCopyOf, IsCarried, IsCut, CauseBy}
 use Rattle.copy_engine.specs.Lane.{LaneState, fault_of, IsFair, HasCarried, IsSound, fresh, lane_lore}
+use Rattle.copy_engine.proofs.ToldLemmas.{told_then}
 use Rattle.copy_engine.proofs.CarryingLemmas.{source_same, other_blob, copy_still, copy_here}
 
 -- ---- a blob that was not written whole
@@ -90,12 +91,6 @@ same_cause t source i j d s =
     ∙ ap (λ x. cause_at t source (record { number = i.number; digest = j.digest; size = x })) s
 
 -- ---- what a lane has carried
-
-then_told : (R S T : Tree → Tree → Type 0) → ((a b c : Tree) → R a b → S b c → T a c) → (x y z : Option Tree) → Told R x y → Told S y z → Told T x z
-then_told R S T step None y z r s = tt
-then_told R S T step (Some a) None z r s = absurd r
-then_told R S T step (Some a) (Some b) None r s = s
-then_told R S T step (Some a) (Some b) (Some c) r s = step a b c r s
 
 none_carried : (source dest : List ℕ) (t : Option Tree) → Told (HasCarried source dest None) t t
 none_carried source dest None = tt
@@ -190,7 +185,7 @@ module _ {W F : Type 0} (tree : F → Option Tree) (faults : F → ℕ) where
     pub sound_carried : (job : Job) → IsSound tree faults l → l.failure ≡ None → Told (IsCarried l.source l.dest job) (tree l.lane.files) (tree files) → faults l.lane.files ≤ faults files → IsSound tree faults with_files
     sound_carried job sound calm next later = sound_by sound calm
         (subst (λ f. Told (HasCarried l.source l.dest f) (tree l.origin.files) (tree files)) (sym calm)
-        (then_told (HasCarried l.source l.dest None) (IsCarried l.source l.dest job) (HasCarried l.source l.dest None) (one_carried l.source l.dest job sound.apart)
+        (told_then (HasCarried l.source l.dest None) (IsCarried l.source l.dest job) (HasCarried l.source l.dest None) (one_carried l.source l.dest job sound.apart)
         (tree l.origin.files) (tree l.lane.files) (tree files) (subst (λ f. Told (HasCarried l.source l.dest f) (tree l.origin.files) (tree l.lane.files)) calm sound.carried) next)) later
 
     -- a lane with other files, on which a job has failed
@@ -204,7 +199,7 @@ module _ {W F : Type 0} (tree : F → Option Tree) (faults : F → ℕ) where
     sound_failed job cause sound calm cut ends later rose bears = record {
       apart = sound.apart;
       wires = record { from = sound.wires.from; to = sound.wires.to; number = sound.wires.number };
-      carried = then_told (HasCarried l.source l.dest None) (IsCut l.dest) (HasCarried l.source l.dest (Some (job, cause))) (one_cut l.source l.dest (job, cause))
+      carried = told_then (HasCarried l.source l.dest None) (IsCut l.dest) (HasCarried l.source l.dest (Some (job, cause))) (one_cut l.source l.dest (job, cause))
           (tree l.origin.files) (tree l.lane.files) (tree files) (subst (λ f. Told (HasCarried l.source l.dest f) (tree l.origin.files) (tree l.lane.files)) calm sound.carried) cut;
       later = (let before = sound.later in omega (arith, before, later));
       cause = λ other told is. fails_since l.source l.dest l.failure job other cause told sound.apart (fault_cases job other cause told is) (tree l.origin.files) (tree l.lane.files) sound.carried ends;
@@ -259,6 +254,6 @@ module _ {W F : Type 0} (tree : F → Option Tree) (faults : F → ℕ) where
 
     -- a job that was carried is secured
     pub carried_secured : (job : Job) → IsSound tree faults l → Told (IsCarried l.source l.dest job) (tree l.lane.files) (tree files) → (lane_lore tree).secured with_files job
-    carried_secured job sound next = then_told (HasCarried l.source l.dest l.failure) (IsCarried l.source l.dest job) (λ old new. IsCopyOf l.source l.dest old new job)
+    carried_secured job sound next = told_then (HasCarried l.source l.dest l.failure) (IsCarried l.source l.dest job) (λ old new. IsCopyOf l.source l.dest old new job)
         (λ a b c so n. copy_here l.source l.dest job a b c sound.apart so.kept n.copy)
         (tree l.origin.files) (tree l.lane.files) (tree files) sound.carried next

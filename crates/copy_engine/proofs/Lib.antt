@@ -1,6 +1,8 @@
 pub mod OutcomeLemmas
+pub mod ToldLemmas
 pub mod FirstLemmas
 pub mod SourceLemmas
+pub mod GivenUpLemmas
 pub mod ReadyLemmas
 pub mod JobLemmas
 pub mod GateLemmas

@@ -28,6 +28,7 @@ use Rattle.copy_engine.specs.Lane.{LaneState, fault_of, IsFair, HasCarried, IsSo
 use Rattle.copy_workers.specs.Asked.{Answered, answers_to}
 use Rattle.copy_engine.specs.Receipts.{AreReceipts, AnswersDone}
 use Rattle.copy_engine.specs.Run.{HasRun, WasLent}
+use Rattle.copy_engine.proofs.ToldLemmas.{told_same}
 use Rattle.copy_engine.proofs.LaneLemmas.{this_fault}
 use Rattle.copy_engine.proofs.CarryingLemmas.{no_job, copy_has_no_cause, least_answers, whole_answers}
 use Rattle.copy_engine.proofs.OutcomeLemmas.{free_refuses}
@@ -365,9 +366,5 @@ module _ {W F : Type 0} (tree : F → Option Tree) (faults : F → ℕ) (source 
     lent_cause = at_first (Err fault) l (λ i a. FilesCause {A = List Issued} (faults_at faults i 0) (faults_at faults a 0) (Err (by_fault fault))) (run_cause tree faults source dest jobs l.old l.new fault l.run)
 
 -- nothing was done
-pub undone : {W F : Type 0} (items : List (Lane W F)) → OnlyFirst items items
-undone items = record { count = refl; others = λ place lt. refl; first = λ d. record { from = refl; to = refl; number = refl } }
-
 pub untouched : (dest : List ℕ) (t : Option Tree) → Told (OnlyBlobs dest) t t
-untouched dest None = tt
-untouched dest (Some t) = no_change_in dest t
+untouched dest t = told_same (OnlyBlobs dest) (no_change_in dest) t

@@ -7,6 +7,7 @@ pub mod Carried
 pub mod Report
 pub mod Delivered
 pub mod Written
+pub mod GivenUp
 pub mod Lanes
 pub mod Lane
 pub mod Receipts

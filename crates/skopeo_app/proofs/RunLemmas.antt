@@ -1,5 +1,5 @@
 -- From the copy of one image to the answer of the command.
-use Rattle.std.proofs.Common.{◌≡◌, ◌++◌, List, ℕ, length, true, false, Option, Some, None, Result, Ok, Err, IfErr, IfOk, OnErr, IfSome, ◌⊎◌, inl, inr, refl, sym, ap, subst, ◌∙◌, arith}
+use Rattle.std.proofs.Common.{◌≡◌, ◌≢◌, ◌++◌, List, ℕ, length, true, false, Option, Some, None, Result, Ok, Err, IfErr, IfOk, OnErr, IfSome, ◌⊎◌, inl, inr, refl, sym, ap, subst, ◌∙◌, arith}
 use Rattle.std.specs.Option.{option_map}
 use Rattle.std.proofs.lemmas.List.{take_all, append-nil}
 use Rattle.skopeo_outside.specs.Tree.{Tree, file_at}
@@ -7,9 +7,11 @@ use Rattle.skopeo_outside.specs.Outside.{Told, HasPrefixOf}
 use Rattle.layouts.specs.declared.read.Limited.{Limited}
 use Rattle.layouts.specs.declared.read.Limited.TheVariants.{Absent, TooLong, Whole}
 use Rattle.layouts.specs.Bounds.{limited, limit, whole_of}
-use Rattle.layouts.specs.Trees.{OnlyIn, WritesNoManifest}
+use Rattle.skopeo_outside.proofs.Trees.{path_cases}
+use Rattle.layouts.specs.Paths.{IsIn}
+use Rattle.layouts.specs.Trees.{OnlyIn}
+use Rattle.layouts.proofs.NameLemmas.{same_folder}
 use Rattle.layouts.proofs.FolderLemmas.{no_change_in}
-use Rattle.layouts.proofs.ReplaceLemmas.{none_at_all}
 use Rattle.policy_file.specs.PolicyLists.{PolicyLists, accepting}
 use Rattle.policy_file.specs.PolicyOf.{policy_in}
 use Rattle.policy_file.proofs.PolicyLaw.{read_says}
@@ -19,7 +21,10 @@ use Rattle.copy_engine.specs.declared.report.Copied.{Copied}
 use Rattle.copy_engine.specs.declared.refusal.Refusal.TheVariants as image
 use Rattle.copy_engine.specs.Plan.{source_of, dest_of}
 use Rattle.copy_engine.specs.Delivered.{Delivers}
+use Rattle.copy_engine.specs.GivenUp.{KeepsImages, IsGivenUp}
 use Rattle.copy_engine.specs.Headline.{ImageHeadline}
+use Rattle.copy_engine.proofs.ToldLemmas.{told_as, told_same}
+use Rattle.copy_engine.proofs.GivenUpLemmas.{same_given_up}
 use Rattle.copy_engine.proofs.CopyLemmas.{bounded_is}
 use Rattle.skopeo_app.specs.declared.refusal.CommandRefusal.{CommandRefusal}
 use Rattle.skopeo_app.specs.declared.refusal.CommandRefusal.TheVariants.{Words, Reference, SamePlace, NotBuilt, PolicyMissing, PolicyInvalid, PolicyTooLarge, Image, Output}
@@ -35,7 +40,7 @@ use Rattle.skopeo_app.specs.Policy.{or_invalid, policy_from, policy_file, usual_
 use Rattle.skopeo_app.specs.Ending.{page_done, copy_done, image_of_task, copy_end, task_end, ending}
 use Rattle.skopeo_app.specs.Lines.{out_lines}
 use Rattle.skopeo_app.specs.Headline.{SaysPolicy, Counts, Headline, Frame}
-use Rattle.skopeo_app.specs.Calls.{SinkSeen, Seen, FilesCause, OutputCause, HasCauses, HasFailed, IsOfOutput, IsEarly, IsBefore, NoNewManifests, LeavesTree, TaskHeadline, IsAt, IsCopyAnswer, IsPage, IsOfWords, IsAtNamed, IsAnswer, IsRun}
+use Rattle.skopeo_app.specs.Calls.{SinkSeen, Seen, FilesCause, OutputCause, HasCauses, HasFailed, IsOfOutput, IsEarly, IsBefore, WritesNoImage, LeavesTree, TaskHeadline, IsAt, HasCopied, IsCopyAnswer, IsPage, IsOfWords, IsAtNamed, HasCopiedNamed, IsAnswer, IsRun}
 use Rattle.skopeo_app.proofs.OutcomeLemmas.{unsaid, then_answers, then_refuses}
 
 -- ---- the policy that counts
@@ -72,27 +77,27 @@ counted home cwd task policy (Some a) (Some b) said h = λ path bytes w. (policy
 -- ---- nothing was written
 
 pub none_written : (home cwd : List ℕ) (task : CopyTask) (x : Option Tree) → Told (TaskHeadline home cwd task) x x
-none_written home cwd task None = tt
-none_written home cwd task (Some t) = λ path bytes w. absurd (w.changed w.stands)
+none_written home cwd task x = told_same (TaskHeadline home cwd task) (λ t path bytes w. absurd (w.changed w.stands)) x
 
-pub same_kept : (folder : List ℕ) (x : Option Tree) → Told (WritesNoManifest folder) x x
-same_kept folder None = tt
-same_kept folder (Some t) = none_at_all folder t
+pub same_kept : (folder : List ℕ) (x : Option Tree) → Told (IsGivenUp folder) x x
+same_kept folder x = told_same (IsGivenUp folder) (same_given_up folder) x
 
-kept_in : (folder : List ℕ) (x y : Option Tree) → Told (WritesNoManifest folder) x y → Told (OnlyIn folder) x y
-kept_in folder None y k = tt
-kept_in folder (Some a) None k = k
-kept_in folder (Some a) (Some b) k = k.outside
+kept_in : (folder : List ℕ) (x y : Option Tree) → Told (IsGivenUp folder) x y → Told (OnlyIn folder) x y
+kept_in folder x y k = told_as (IsGivenUp folder) (OnlyIn folder) (λ a b k. k.none.outside) x y k
 
-kept_manifests : (folder : List ℕ) (x y : Option Tree) → Told (WritesNoManifest folder) x y → Told NoNewManifests x y
-kept_manifests folder None y k = tt
-kept_manifests folder (Some a) None k = k
-kept_manifests folder (Some a) (Some b) k = k.manifests
+-- a file of another folder is as it was
+kept_images : (dest : List ℕ) (a b : Tree) → IsGivenUp dest a b → (folder : List ℕ) → KeepsImages folder a b
+kept_images dest a b k folder = by (path_cases dest folder)
+  where
+    by : (dest ≡ folder) ⊎ (dest ≢ folder) → KeepsImages folder a b
+    by (inl same) = subst (λ v. KeepsImages v a b) same k.images
+    by (inr apart) = inr (λ q i other. k.none.outside.files q (λ j. apart (same_folder dest folder j.name i.name j.plain i.plain (sym j.is ∙ i.is))))
+
+kept_manifests : (folder : List ℕ) (x y : Option Tree) → Told (IsGivenUp folder) x y → Told WritesNoImage x y
+kept_manifests folder x y k = told_as (IsGivenUp folder) WritesNoImage (λ a b k. record { manifests = k.none.manifests; folders = kept_images folder a b k }) x y k
 
 delivered_in : (task : CopyTask) (copied : Copied) (x y : Option Tree) → Told (Delivers (source_of task.plan) (dest_of task.plan) copied.rows) x y → Told (OnlyIn (dest_of task.plan)) x y
-delivered_in task copied None y d = tt
-delivered_in task copied (Some a) None d = d
-delivered_in task copied (Some a) (Some b) d = d.delivered.outside
+delivered_in task copied x y d = told_as (Delivers (source_of task.plan) (dest_of task.plan) copied.rows) (OnlyIn (dest_of task.plan)) (λ a b d. d.delivered.outside) x y d
 
 -- ---- what was printed
 
@@ -203,7 +208,7 @@ output_causes before after e cause = record {
 
 -- before anything was printed
 pub copy_refused : (home cwd : List ℕ) (task : CopyTask) (before after : Seen) (e : CommandRefusal) → after.out.bytes ≡ before.out.bytes
-    → Told (TaskHeadline home cwd task) before.tree after.tree → Told (WritesNoManifest (dest_of task.plan)) before.tree after.tree → LeavesTree {A = Copied} (Err e) before.tree after.tree
+    → Told (TaskHeadline home cwd task) before.tree after.tree → Told (IsGivenUp (dest_of task.plan)) before.tree after.tree → LeavesTree {A = Copied} (Err e) before.tree after.tree
     → Refuses {A = Copied} e (image_of_task home cwd before.tree task) → FilesCause {A = Copied} before.faults after.faults (Err e) → IsCopyAnswer home cwd task before after (Err e)
 unfolding copy_end
 copy_refused home cwd task before after e out headline kept same said cause = record {
@@ -215,6 +220,7 @@ copy_refused home cwd task before after e out headline kept same said cause = re
   early = λ b. kept_manifests (dest_of task.plan) before.tree after.tree kept;
   untouched = same;
   there = tt;
+  behind = λ n q. absurd (no_count _ n cause.only q);
   printed = tt;
   silent = λ b. out;
   part = none_printed (copy_end home cwd before.tree task) before.out.bytes after.out.bytes out;
@@ -240,6 +246,7 @@ copy_unprinted home cwd task copied done before after e is headline there said o
   early = λ b. absurd (late before after e of failed b);
   untouched = of_output_behind before.tree after.tree e of;
   there = tt;
+  behind = λ n q. told_as (Delivers (source_of task.plan) (dest_of task.plan) copied.rows) (HasCopied task) (λ a b d. (copied.rows, d)) before.tree after.tree there;
   printed = tt;
   silent = λ b. absurd (late before after e of failed b);
   part = part_printed (copy_end home cwd before.tree task) (copy_done task.quiet copied) before.out.bytes after.out.bytes (copy_said home cwd task before.tree copied said)
@@ -247,9 +254,7 @@ copy_unprinted home cwd task copied done before after e is headline there said o
 }
 
 at_end : (task : CopyTask) (copied : Copied) (x y : Option Tree) → Told (Delivers (source_of task.plan) (dest_of task.plan) copied.rows) x y → Told (IsAt task (Some copied.rows)) x y
-at_end task copied None y d = tt
-at_end task copied (Some a) None d = d
-at_end task copied (Some a) (Some b) d = d
+at_end task copied x y d = told_as (Delivers (source_of task.plan) (dest_of task.plan) copied.rows) (IsAt task (Some copied.rows)) (λ a b d. d) x y d
 
 -- the image was copied and its lines were printed
 pub copy_printed : (home cwd : List ℕ) (task : CopyTask) (copied : Copied) (done : Done) (before after : Seen) → done ≡ copy_done task.quiet copied
@@ -264,6 +269,7 @@ copy_printed home cwd task copied done before after is headline there said print
   early = tt;
   untouched = tt;
   there = at_end task copied before.tree after.tree there;
+  behind = tt;
   printed = lines;
   silent = tt;
   part = part_printed (copy_end home cwd before.tree task) (copy_done task.quiet copied) before.out.bytes after.out.bytes (copy_said home cwd task before.tree copied said)
@@ -283,9 +289,9 @@ same_frame : (words : List (List ℕ)) (cwd : List ℕ) (x y : Option Tree) → 
 same_frame words cwd None y e = tt
 same_frame words cwd (Some t) y e = subst (λ z. Told (Frame words cwd) (Some t) z) (sym e) (record { inside = λ task is. (no_change_in (dest_of task.plan) t).outside; unnamed = λ none. refl })
 
-same_manifests : (x y : Option Tree) → y ≡ x → Told NoNewManifests x y
+same_manifests : (x y : Option Tree) → y ≡ x → Told WritesNoImage x y
 same_manifests None y e = tt
-same_manifests (Some t) y e = subst (λ z. Told NoNewManifests (Some t) z) (sym e) (λ path m. inl refl)
+same_manifests (Some t) y e = subst (λ z. Told WritesNoImage (Some t) z) (sym e) (record { manifests = λ path m. inl refl; folders = λ folder. inr (λ q i other. refl) })
 
 of_words_said : (words : List (List ℕ)) (cwd : List ℕ) (e : CommandRefusal) → Refuses {A = Task} e (Some (task_of words cwd)) → is_of_words e ≡ true → task_of words cwd ≡ Err e
 of_words_said words cwd (Words p k) said of = said
@@ -312,6 +318,7 @@ words_refused words home cwd before after e tree out said files output = record 
     early = λ b. same_manifests before.tree after.tree tree;
     untouched = λ ahead. tree;
     there = tt;
+    behind = λ n q. absurd (no_count _ n output q);
     printed = tt;
     silent = λ b. out;
   };
@@ -329,6 +336,10 @@ nowhere : (words : List (List ℕ)) (cwd text : List ℕ) (x y : Option Tree) �
 nowhere words cwd text None y e is = tt
 nowhere words cwd text (Some t) y e is = subst (λ z. Told (IsAtNamed words cwd (page_done text)) (Some t) z) (sym e) (λ task copy. tt)
 
+nothing_copied : (words : List (List ℕ)) (cwd text : List ℕ) (x y : Option Tree) → y ≡ x → task_of words cwd ≡ Ok (Page text) → Told (HasCopiedNamed words cwd) x y
+nothing_copied words cwd text None y e is = tt
+nothing_copied words cwd text (Some t) y e is = subst (λ z. Told (HasCopiedNamed words cwd) (Some t) z) (sym e) (λ task copy. absurd (not_copy words cwd text task is copy))
+
 page_end : (words : List (List ℕ)) (home cwd text : List ℕ) (before after : Seen) (r : Result Done CommandRefusal) → task_of words cwd ≡ Ok (Page text) → after.tree ≡ before.tree → IsPage text before.out after.out r → IsRun words home cwd before after r
 page_end words home cwd text before after (Ok done) is tree page = subst (λ d. IsRun words home cwd before after (Ok d)) (sym page.is) (record {
   headline = same_headline words home cwd before.tree after.tree tree;
@@ -340,6 +351,7 @@ page_end words home cwd text before after (Ok done) is tree page = subst (λ d. 
     early = tt;
     untouched = tt;
     there = nowhere words cwd text before.tree after.tree tree is;
+    behind = tt;
     printed = page.printed;
     silent = tt;
   };
@@ -358,6 +370,7 @@ page_end words home cwd text before after (Err e) is tree page = record {
     early = λ b. absurd (late before after e page.only page.failed b);
     untouched = λ ahead. tree;
     there = tt;
+    behind = λ n q. nothing_copied words cwd text before.tree after.tree tree is;
     printed = tt;
     silent = λ b. absurd (late before after e page.only page.failed b);
   };
@@ -404,6 +417,15 @@ delivers_of : (words : List (List ℕ)) (cwd : List ℕ) (task : CopyTask) (x y 
 delivers_of words cwd task x y (Ok done) is d = delivers words cwd task done x y is d
 delivers_of words cwd task x y (Err e) is d = tt
 
+copied_named : (words : List (List ℕ)) (cwd : List ℕ) (task : CopyTask) (x y : Option Tree) → task_of words cwd ≡ Ok (Copy task) → Told (HasCopied task) x y → Told (HasCopiedNamed words cwd) x y
+copied_named words cwd task x y is d =
+    told_as (HasCopied task) (HasCopiedNamed words cwd) (λ a b d other copy. subst (λ t. HasCopied t a b) (one_task task other (sym is ∙ copy)) d) x y d
+
+behind_of : (words : List (List ℕ)) (cwd : List ℕ) (task : CopyTask) (x y : Option Tree) (r : Result Done CommandRefusal) → task_of words cwd ≡ Ok (Copy task)
+    → IfErr r (λ e. (n : ℕ) → output_count e ≡ Some n → Told (HasCopied task) x y) → IfErr r (λ e. (n : ℕ) → output_count e ≡ Some n → Told (HasCopiedNamed words cwd) x y)
+behind_of words cwd task x y (Ok done) is b = tt
+behind_of words cwd task x y (Err e) is b = λ n q. copied_named words cwd task x y is (b n q)
+
 -- a copy was asked for
 pub copy_told : (words : List (List ℕ)) (home cwd : List ℕ) (task : CopyTask) (before after : Seen) (r : Result Done CommandRefusal) → Answers (Ok (Copy task)) (Some (task_of words cwd)) → IsCopyAnswer home cwd task before after r → IsRun words home cwd before after r
 copy_told words home cwd task before after r is copy = record {
@@ -416,6 +438,7 @@ copy_told words home cwd task before after r is copy = record {
     early = copy.early;
     untouched = copy.untouched;
     there = delivers_of words cwd task before.tree after.tree r is copy.there;
+    behind = behind_of words cwd task before.tree after.tree r is copy.behind;
     printed = copy.printed;
     silent = copy.silent;
   };

@@ -1,6 +1,7 @@
 -- Steps of what the words ask for, one after the other.
 use Rattle.std.proofs.Common.{Bool, true, false, ◌≡◌, ◌≢◌, ◌&&◌, List, ℕ, Some, Result, Ok, Err, refl, sym, ap, subst, ◌∙◌}
 use Rattle.std.specs.Str.{bytes_eq}
+use Rattle.std.proofs.lemmas.Bool.{and_parts}
 use Rattle.std.proofs.lemmas.Slice.Eq.{bytes_eq-Decides}
 use Rattle.copy_engine.specs.declared.plan.CopyPlan.{CopyPlan}
 use Rattle.copy_engine.specs.Plan.{is_folder, folder_in, IsBetweenFolders}
@@ -20,14 +21,10 @@ refuses_by false w f e a = subst (λ v. RefusesBy false e (Some (v >>= f))) (sym
 pub then_err : {A B : Type 0} (w : Result A CommandRefusal) (f : A → Result B CommandRefusal) (e : CommandRefusal) → Refuses e (Some w) → Refuses e (Some (w >>= f))
 then_err w f e a = refuses_by (is_free e) w f e a
 
-and_true : (a b : Bool) → (a && b) ≡ true → (a ≡ true) × (b ≡ true)
-and_true true b e = (refl, e)
-and_true false b e = let x : false ≡ true = e in cc
-
 -- two folders that are not one
 pub between : (plan : CopyPlan) → are_same plan ≡ false → are_built plan ≡ true → IsBetweenFolders plan
 between plan same built =
-    let p : (is_folder plan.source ≡ true) × (is_folder plan.dest ≡ true) = and_true (is_folder plan.source) (is_folder plan.dest) built in
+    let p : (is_folder plan.source ≡ true) × (is_folder plan.dest ≡ true) = and_parts (is_folder plan.source) (is_folder plan.dest) built in
     record { source = p.0; dest = p.1; apart = λ e. differ e }
   where
     differ : folder_in plan.source ≡ folder_in plan.dest → ⊥

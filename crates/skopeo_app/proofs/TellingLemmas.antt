@@ -48,6 +48,7 @@ memory_answer words home cwd before after e is = record {
   early = λ b. is.early (unfailed b);
   untouched = λ ahead. let no : false ≡ true = ahead in cc;
   there = tt;
+  behind = λ n e. let x : None ≡ Some n = e in cc;
   printed = tt;
   silent = λ b. is.silent (unfailed b);
 }

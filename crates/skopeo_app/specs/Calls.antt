@@ -12,6 +12,7 @@ use Rattle.copy_engine.specs.declared.refusal.Refusal.TheVariants as image
 use Rattle.copy_engine.specs.Plan.{source_of, dest_of}
 use Rattle.copy_engine.specs.Lanes.{tree_at, faults_at}
 use Rattle.copy_engine.specs.Delivered.{Delivers}
+use Rattle.copy_engine.specs.GivenUp.{KeepsImages}
 use Rattle.copy_engine.specs.Headline.{IsWrite, IsCopied}
 use Rattle.skopeo_app.specs.declared.refusal.CommandRefusal.{CommandRefusal}
 use Rattle.skopeo_app.specs.declared.refusal.CommandRefusal.TheVariants as refusal
@@ -94,13 +95,15 @@ IsEarly _ = Unit {0}
 abbrev pub IsBefore : Seen → Seen → CommandRefusal → Type 0
 IsBefore before after e = IsEarly e ⊎ (HasFailed before.out after.out → ⊥)
 
--- each manifest is as it was, or is gone
-abbrev pub NoNewManifests : Tree → Tree → Type 0
-NoNewManifests old new = (path : List ℕ) → IsManifestPath path → SameOrGone old new path
+-- no image was written or spoilt: each manifest is as it was or is gone, and of each folder all manifests are gone or all
+-- other files are as they were
+pub record WritesNoImage (old new : Tree) : Type 0 where
+  pub manifests : (path : List ℕ) → IsManifestPath path → SameOrGone old new path
+  pub folders : (folder : List ℕ) → KeepsImages folder old new
 
--- such a refusal leaves no new manifest
+-- such a refusal leaves no new image
 abbrev pub WritesNone : {A : Type 0} → Seen → Seen → Result A CommandRefusal → Type 0
-WritesNone before after result = IfErr result (λ e. IsBefore before after e → Told NoNewManifests before.tree after.tree)
+WritesNone before after result = IfErr result (λ e. IsBefore before after e → Told WritesNoImage before.tree after.tree)
 
 -- a refusal that comes ahead of the first change of a file leaves all as it was
 abbrev pub LeavesTree : {A : Type 0} → Result A CommandRefusal → Option Tree → Option Tree → Type 0
@@ -126,6 +129,10 @@ abbrev pub IsAt : CopyTask → Option (List CopiedRow) → Tree → Tree → Typ
 IsAt task None old new = Unit {0}
 IsAt task (Some rows) old new = Delivers (source_of task.plan) (dest_of task.plan) rows old new
 
+-- so it does, whatever its rows are
+abbrev pub HasCopied : CopyTask → Tree → Tree → Type 0
+HasCopied task old new = (rows : List CopiedRow) × Delivers (source_of task.plan) (dest_of task.plan) rows old new
+
 -- what holds of the answer of one copy
 pub record IsCopyAnswer (home cwd : List ℕ) (task : CopyTask) (before after : Seen) (answer : Result Done CommandRefusal) : Type 0 where
   pub headline : Told (TaskHeadline home cwd task) before.tree after.tree
@@ -136,6 +143,7 @@ pub record IsCopyAnswer (home cwd : List ℕ) (task : CopyTask) (before after : 
   pub early : WritesNone before after answer
   pub untouched : LeavesTree answer before.tree after.tree
   pub there : IfOk answer (λ done. Told (IsAt task done.rows) before.tree after.tree)
+  pub behind : IfErr answer (λ e. (n : ℕ) → output_count e ≡ Some n → Told (HasCopied task) before.tree after.tree)
   pub printed : IsPrinted before after answer
   pub silent : IsSilent before after answer
   pub part : IfSome (copy_end home cwd before.tree task) (λ w. Told (HasPrefixOf (out_lines w)) before.out.bytes after.out.bytes)
@@ -160,7 +168,11 @@ IsOfWords result words cwd = IfErr result (λ e. is_of_words e ≡ true → task
 abbrev pub IsAtNamed : List (List ℕ) → List ℕ → Done → Tree → Tree → Type 0
 IsAtNamed words cwd done old new = (task : CopyTask) → task_of words cwd ≡ Ok (Copy task) → IsAt task done.rows old new
 
--- what holds of an answer before it is told
+-- the image that the words name stands at their destination, and nothing else in it
+abbrev pub HasCopiedNamed : List (List ℕ) → List ℕ → Tree → Tree → Type 0
+HasCopiedNamed words cwd old new = (task : CopyTask) → task_of words cwd ≡ Ok (Copy task) → HasCopied task old new
+
+-- what holds of an answer before it is told; a fault of the output comes behind the image
 pub record IsAnswer (words : List (List ℕ)) (home cwd : List ℕ) (before after : Seen) (answer : Result Done CommandRefusal) : Type 0 where
   pub wanted : Answers answer (ending words home cwd before.tree)
   pub of_words : IsOfWords answer words cwd
@@ -168,6 +180,7 @@ pub record IsAnswer (words : List (List ℕ)) (home cwd : List ℕ) (before afte
   pub early : WritesNone before after answer
   pub untouched : LeavesTree answer before.tree after.tree
   pub there : IfOk answer (λ done. Told (IsAtNamed words cwd done) before.tree after.tree)
+  pub behind : IfErr answer (λ e. (n : ℕ) → output_count e ≡ Some n → Told (HasCopiedNamed words cwd) before.tree after.tree)
   pub printed : IsPrinted before after answer
   pub silent : IsSilent before after answer
 

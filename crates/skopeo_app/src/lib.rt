@@ -13,6 +13,3 @@ pub use command::skopeo;
 pub use refusal::{CommandRefusal, Unbuilt};
 pub use run::Done;
 pub use task::{CopyTask, PolicyChoice, Task};
-
-#[cfg(test)]
-mod tests;

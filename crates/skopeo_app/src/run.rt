@@ -2,10 +2,10 @@
 ghost use Rattle.std.specs.Prelude.{◌≡◌, ◌<◌, IfOk, OnErr, length, map};
 ghost use Rattle.std.specs.String.{string_bytes};
 ghost use Rattle.skopeo_outside.specs.Outside.{Told};
-ghost use Rattle.layouts.specs.Trees.{WritesNoManifest};
 ghost use Rattle.copy_engine.specs.Plan.{source_of, dest_of, IsBetweenFolders};
 ghost use Rattle.copy_engine.specs.Headline.{ImageHeadline};
 ghost use Rattle.copy_engine.specs.Delivered.{Delivers};
+ghost use Rattle.copy_engine.specs.GivenUp.{IsGivenUp};
 ghost use Rattle.copy_engine.specs.ImageEnd.{image_end};
 ghost use Rattle.copy_engine.specs.Lanes.{tree_at, faults_at, OnlyFirst};
 ghost use Rattle.skopeo_app.specs.Policy.{policy_at};
@@ -59,7 +59,7 @@ fn copy_first<R: Threads + Sync, W: Wire + Send, F: Files + Send>(
     requires lanes { 0 < length lanes.old.items }
     ensures headline { Told (λ old new. ImageHeadline policy.now plan.now old old new) (tree_at F.tree lanes.old.items 0) (tree_at F.tree lanes.new.items 0) }
     ensures delivered { IfOk result (λ copied. Told (Delivers (source_of plan.now) (dest_of plan.now) copied.rows) (tree_at F.tree lanes.old.items 0) (tree_at F.tree lanes.new.items 0)) }
-    ensures kept { OnErr result (Told (WritesNoManifest (dest_of plan.now)) (tree_at F.tree lanes.old.items 0) (tree_at F.tree lanes.new.items 0)) }
+    ensures kept { OnErr result (Told (IsGivenUp (dest_of plan.now)) (tree_at F.tree lanes.old.items 0) (tree_at F.tree lanes.new.items 0)) }
     ensures untouched { LeavesTree result (tree_at F.tree lanes.old.items 0) (tree_at F.tree lanes.new.items 0) }
     ensures answer { Answers result (lifted (image_end (tree_at F.tree lanes.old.items 0) plan.now policy.now)) }
     ensures cause { FilesCause (faults_at F.faults lanes.old.items 0) (faults_at F.faults lanes.new.items 0) result }
@@ -85,7 +85,7 @@ fn copy_named<R: Threads + Sync, W: Wire + Send, F: Files + Send>(
     requires lanes { 0 < length lanes.old.items }
     ensures headline { Told (TaskHeadline home.now cwd.now task.now) (tree_at F.tree lanes.old.items 0) (tree_at F.tree lanes.new.items 0) }
     ensures delivered { IfOk result (λ copied. Told (Delivers (source_of task.now.plan) (dest_of task.now.plan) copied.rows) (tree_at F.tree lanes.old.items 0) (tree_at F.tree lanes.new.items 0)) }
-    ensures kept { OnErr result (Told (WritesNoManifest (dest_of task.now.plan)) (tree_at F.tree lanes.old.items 0) (tree_at F.tree lanes.new.items 0)) }
+    ensures kept { OnErr result (Told (IsGivenUp (dest_of task.now.plan)) (tree_at F.tree lanes.old.items 0) (tree_at F.tree lanes.new.items 0)) }
     ensures untouched { LeavesTree result (tree_at F.tree lanes.old.items 0) (tree_at F.tree lanes.new.items 0) }
     ensures answer { Answers result (image_of_task home.now cwd.now (tree_at F.tree lanes.old.items 0) task.now) }
     ensures cause { FilesCause (faults_at F.faults lanes.old.items 0) (faults_at F.faults lanes.new.items 0) result }

@@ -4,7 +4,7 @@ mod policy;
 mod source;
 mod words;
 
-use crate::skopeo;
+use skopeo_app::skopeo;
 use skopeo_outside::{Failures, Idle, Lane, Many, MemFiles, MemSink};
 use std::alloc::Global;
 use std::test::Fail;
