@@ -1,0 +1,5 @@
+pub mod Heads
+pub mod Outside
+pub mod Answered
+pub mod Words
+pub mod Image

@@ -1,0 +1,57 @@
+//! A registry for trials: what it writes on a connection is what a finite map gives for the head that it read.
+#![tactic(auto)]
+
+mod answer;
+mod image;
+mod registry;
+mod request;
+mod unanswered;
+mod words;
+
+use registry::run_registry;
+use std::process::ExitCode;
+use std::rt::Env;
+use std::{env, io};
+use words::{Task, read_task};
+
+/// The words that are known.
+const KNOWN: &str = "lab registry PORT COUNT";
+
+/// The words of the command line, without the program's name.
+fn read_words<R: Env + AllocGlobal>(rt: &R) -> io::Result<Vec<String>> {
+    let mut words = Vec::new(rt.alloc());
+    for word in env::args(rt)?.skip(1) {
+        words.push(word)?;
+    }
+    Ok(words)
+}
+
+fn main(rt: HostRuntime) -> ExitCode {
+    let words = match read_words(&rt) {
+        Ok(words) => words,
+        Err(error) => {
+            let _ = eprintln!(rt; "lab: {error}");
+            return ExitCode::from(1);
+        }
+    };
+    match read_task(&words) {
+        Some(Task::Help) => match println!(rt; "{KNOWN}") {
+            Ok(()) => ExitCode::SUCCESS,
+            Err(_) => ExitCode::from(1),
+        },
+        Some(Task::Registry(port, count)) => match run_registry(&rt, port, count) {
+            Ok(()) => ExitCode::SUCCESS,
+            Err(error) => {
+                let _ = eprintln!(rt; "lab: 127.0.0.1:{port}: {error}");
+                ExitCode::from(1)
+            }
+        },
+        None => {
+            let _ = eprintln!(rt; "lab: known are the words: {KNOWN}");
+            ExitCode::from(2)
+        }
+    }
+}
+
+#[cfg(test)]
+mod tests;
