@@ -265,6 +265,8 @@ impl MapPeer {
 }
 
 impl Peer for MapPeer {
+    ghost answers = { λ old _ _ sent before after new. (after ≡ before ++ peer_answer old sent) × (new ≡ old) };
+
     /// Adds the answer to what was sent so far. The only error is want of memory.
     fn answer(
         &mut self,

@@ -1,6 +1,6 @@
 // A wire in memory with a list of the calls that are to fail.
 ghost use Rattle.std.specs.Prelude.{◌≡◌, ◌≤◌, ◌&&◌, ◌/◌, Some, is_some, take, length};
-ghost use Rattle.skopeo_outside.specs.Talks.{all_kept};
+ghost use Rattle.skopeo_outside.specs.Line.{line_told, line_open};
 
 use crate::failures::Failures;
 use crate::line::{Peer, SureWire};
@@ -33,9 +33,9 @@ impl<P: Peer + Drop> MemWire<P> {
 }
 
 impl<P: Peer + Drop> Wire for MemWire<P> {
-    ghost conversations = { λ w. Some (all_kept w.line.past.items w.line.last) };
+    ghost conversations = { λ w. line_told w.line };
 
-    ghost is_open = { λ w. w.line.connected && is_some w.line.last };
+    ghost is_open = { λ w. line_open w.line };
 
     ghost faults = { λ w. w.failures.count };
 
