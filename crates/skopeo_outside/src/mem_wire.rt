@@ -1,6 +1,9 @@
 // A wire in memory with a list of the calls that are to fail.
-ghost use Rattle.std.specs.Prelude.{◌≡◌, ◌≤◌, ◌&&◌, ◌/◌, Some, is_some, take, length};
-ghost use Rattle.skopeo_outside.specs.Line.{line_told, line_open};
+ghost use Rattle.std.specs.Prelude.{◌≡◌, ◌==◌, ◌≤◌, ◌/◌, ◌∷◌, [], Some, take, length, IfOk, OnOk, OnErr, IsErrOf, IsTrue, IsFalse};
+ghost use Rattle.skopeo_outside.specs.Outside.{HasCause};
+ghost use Rattle.skopeo_outside.specs.Failing.{FailsAsListed};
+ghost use Rattle.skopeo_outside.specs.Wire.{Gains, GoesOn, SendsPart, begun, with_sent, with_received};
+ghost use Rattle.skopeo_outside.specs.Line.{line_told, line_open, line_peer, line_piece, is_asked, IsFresh, KeepsEnd, Gives};
 
 use crate::failures::Failures;
 use crate::line::{Peer, SureWire};
@@ -24,7 +27,15 @@ pub struct MemWire<P: Peer + Drop> {
 
 impl<P: Peer + Drop> MemWire<P> {
     /// A wire to the peer, which gives at most `piece` bytes at a time. The calls of these numbers, from 1, fail.
-    pub fn new(alloc: Global, peer: P, piece: usize, failing: Vec<u64>) -> Self {
+    pub fn new(alloc: Global, peer: P, piece: usize, failing: Vec<u64>) -> Self
+        ensures conversations { line_told result.line ≡ Some [] }
+        ensures closed { IsFalse (line_open result.line) }
+        ensures peer { line_peer result.line ≡ peer }
+        ensures piece { line_piece result.line ≡ piece }
+        ensures calls { result.failures.calls ≡ 0 }
+        ensures failing { result.failures.failing.items ≡ failing.items }
+        ensures count { result.failures.count ≡ 0 }
+    {
         MemWire {
             line: SureWire::new(alloc, peer, piece),
             failures: Failures::new(failing),
@@ -39,14 +50,34 @@ impl<P: Peer + Drop> Wire for MemWire<P> {
 
     ghost faults = { λ w. w.failures.count };
 
-    fn connect(&mut self, host: &str, port: u16) -> Result<(), Stop> {
+    fn connect(&mut self, host: &str, port: u16) -> Result<(), Stop>
+        ensures open { OnOk result (IsTrue (line_open self.new.line)) }
+        ensures gained { OnOk result (Gains (begun host.now port ∷ []) (line_told self.old.line) (line_told self.new.line)) }
+        ensures failed { IsErrOf result Stop.Fault → Gains (begun host.now port ∷ []) (line_told self.old.line) (line_told self.new.line) }
+        ensures wanted { IsErrOf result Stop.Memory → line_told self.new.line ≡ line_told self.old.line }
+        ensures fresh { OnOk result (IsFresh self.new.line) }
+        ensures end { KeepsEnd self.old.line self.new.line }
+        ensures calls { FailsAsListed self.old.failures self.new.failures result }
+        ensures cause { HasCause self.old.failures.count self.new.failures.count result }
+    {
         let fails = self.failures.next();
         self.line.connect(host, port)?;
         fails
     }
 
     #[tactic(auto, using(crate::proofs::WireLemmas::sends_less))]
-    fn send(&mut self, bytes: &[u8]) -> Result<(), Stop> {
+    fn send(&mut self, bytes: &[u8]) -> Result<(), Stop>
+        requires { IsTrue (line_open self.old.line) }
+        ensures open { OnOk result (IsTrue (line_open self.new.line)) }
+        ensures sent { OnOk result (GoesOn (with_sent bytes.now) (line_told self.old.line) (line_told self.new.line)) }
+        ensures part { OnErr result (SendsPart bytes.now (line_told self.old.line) (line_told self.new.line)) }
+        ensures half { IsErrOf result Stop.Fault → GoesOn (with_sent (take (length bytes.now / 2) bytes.now)) (line_told self.old.line) (line_told self.new.line) }
+        ensures wanted { IsErrOf result Stop.Memory → line_told self.new.line ≡ line_told self.old.line }
+        ensures asks { OnOk result (IsFalse (is_asked self.new.line)) }
+        ensures end { KeepsEnd self.old.line self.new.line }
+        ensures calls { FailsAsListed self.old.failures self.new.failures result }
+        ensures cause { HasCause self.old.failures.count self.new.failures.count result }
+    {
         if let Err(stop) = self.failures.next() {
             self.line.send(first_half(bytes))?;
             return Err(stop);
@@ -54,7 +85,17 @@ impl<P: Peer + Drop> Wire for MemWire<P> {
         self.line.send(bytes)
     }
 
-    fn recv(&mut self, into: &mut [u8]) -> Result<usize, Stop> {
+    fn recv(&mut self, into: &mut [u8]) -> Result<usize, Stop>
+        requires { IsTrue (line_open self.old.line) }
+        ensures open { OnOk result (IsTrue (line_open self.new.line)) }
+        ensures within { IfOk result (λ count. count ≤ length into.new) }
+        ensures received { IfOk result (λ count. GoesOn (with_received (take count into.new) (count == 0)) (line_told self.old.line) (line_told self.new.line)) }
+        ensures gives { IfOk result (Gives P.answers self.old.line self.new.line (length into.old) into.new) }
+        ensures nothing { OnErr result (line_told self.new.line ≡ line_told self.old.line) }
+        ensures failed { IsErrOf result Stop.Fault → self.new.line ≡ self.old.line }
+        ensures calls { FailsAsListed self.old.failures self.new.failures result }
+        ensures cause { HasCause self.old.failures.count self.new.failures.count result }
+    {
         self.failures.next()?;
         self.line.recv(into)
     }
