@@ -1,5 +1,5 @@
 -- How much is kept of a reply.
-use Rattle.std.proofs.Common.{◌≡◌, ◌≤◌, ◌+◌, ℕ, List, Option, Some, None, length, take, rules, arith, sym, subst}
+use Rattle.std.proofs.Common.{◌≡◌, ◌≤◌, ◌+◌, ℕ, List, Option, Some, None, length, arith, sym, subst}
 use Rattle.std.proofs.lemmas.List.{length-take}
 use Rattle.skopeo_outside.specs.declared.mem_helper.Reply.{Reply}
 use Rattle.skopeo_outside.specs.Replies.{kept_of}

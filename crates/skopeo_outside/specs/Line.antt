@@ -1,9 +1,9 @@
 -- What a wire in memory gives: what its peer answered to all that was sent on the connection, cut as asked.
-use Rattle.std.specs.Prelude.{◌≡◌, ◌&&◌, List, [], ℕ, Bool, Option, Some, is_some, IfSome, IsTrue, IsFalse, length, min, take, drop}
+use Rattle.std.specs.Prelude.{◌≡◌, ◌==◌, ◌&&◌, List, [], ◌∷◌, ℕ, Bool, Some, is_some, IfSome, IsTrue, IsFalse, length, min, take, drop}
 use Rattle.std.specs.String.{string_bytes}
 use Rattle.skopeo_outside.specs.declared.line.SureWire.{SureWire}
 use Rattle.skopeo_outside.specs.Talks.{all_kept}
-use Rattle.skopeo_outside.specs.Wire.{Conversations}
+use Rattle.skopeo_outside.specs.Wire.{Conversations, Gains, GoesOn, begun, with_sent, with_received}
 
 -- what a peer that was as the first adds to what stands in a list, asked at a host and port with what was sent
 abbrev pub AnswersOf : Type 0 → Type 1
@@ -17,6 +17,18 @@ module _ {P : Type 0} where
   -- whether a connection is open
   abbrev pub line_open : SureWire P → Bool
   line_open w = w.connected && is_some w.last
+
+  -- a conversation was begun
+  abbrev pub Begins : List ℕ → ℕ → SureWire P → SureWire P → Type 0
+  Begins host port old new = Gains (begun host port ∷ []) (line_told old) (line_told new)
+
+  -- these bytes were sent
+  abbrev pub Sends : List ℕ → SureWire P → SureWire P → Type 0
+  Sends bytes old new = GoesOn (with_sent bytes) (line_told old) (line_told new)
+
+  -- so many bytes of a buffer were received, or the end
+  abbrev pub Receives : SureWire P → SureWire P → List ℕ → ℕ → Type 0
+  Receives old new into count = GoesOn (with_received (take count into) (count == 0)) (line_told old) (line_told new)
 
   -- the other end
   abbrev pub line_peer : SureWire P → P

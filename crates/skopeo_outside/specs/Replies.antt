@@ -2,10 +2,11 @@
 use Rattle.std.specs.Prelude.{ℕ, ℤ, pos, ◌+◌, ◌&&◌, List, [], ◌∷◌, map, take, Option, Some, None, option_map, if◌then◌else◌}
 use Rattle.std.specs.Option.{option_map_or}
 use Rattle.std.specs.Str.{bytes_eq}
-use Rattle.skopeo_outside.specs.Helper.{HelperRun}
+use Rattle.skopeo_outside.specs.Helper.{HelperRun, Runs}
 use Rattle.skopeo_outside.specs.declared.mem_helper.Ran.{Ran}
 use Rattle.skopeo_outside.specs.declared.mem_helper.Ended.{Ended}
 use Rattle.skopeo_outside.specs.declared.mem_helper.Reply.{Reply}
+use Rattle.skopeo_outside.specs.declared.mem_helper.SureHelper.{SureHelper}
 
 -- a run of these words, and how it ended
 abbrev pub run_with : List ℕ → List ℕ → Option Ended → HelperRun
@@ -19,6 +20,10 @@ run_of r = run_with r.program r.input r.ended
 -- the runs, in order
 abbrev pub runs_of : List Ran → List HelperRun
 runs_of ran = map run_of ran
+
+-- what a helper in memory tells
+abbrev pub runs_told : SureHelper → Runs
+runs_told h = Some (runs_of h.ran)
 
 -- the first reply of a program to an input
 abbrev pub reply_of : List Reply → List ℕ → List ℕ → Option Reply

@@ -1,6 +1,5 @@
 // The calls of an object in memory that are to fail.
 ghost use Rattle.std.specs.Prelude.{◌≡◌, ◌≤◌, OnOk, OnErr, IfErr, IsErrOf};
-ghost use Rattle.skopeo_outside.specs.Outside.{HasCause};
 ghost use Rattle.skopeo_outside.specs.Failing.{FailsAsListed};
 
 use crate::stop::Stop;
@@ -30,7 +29,6 @@ impl Failures {
     /// Counts a call, which fails where its number stands in the list.
     pub fn next(&mut self) -> Result<(), Stop>
         ensures calls { FailsAsListed self.old self.new result }
-        ensures cause { HasCause self.old.count self.new.count result }
         ensures ok { OnOk result (self.new.count ≡ self.old.count) }
         ensures fault { IfErr result (λ stop. stop ≡ Stop.Fault) }
     {

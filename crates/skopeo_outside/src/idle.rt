@@ -1,5 +1,5 @@
 // A wire and helper on which every call fails, and a wire round a wire.
-ghost use Rattle.std.specs.Prelude.{◌≡◌, None, IsErrOf, IsFalse};
+ghost use Rattle.std.specs.Prelude.{◌≡◌, ◌≤◌, None, IsErrOf, IsFalse};
 ghost use Rattle.skopeo_outside.specs.Outside.{HasCause};
 ghost use Rattle.skopeo_outside.specs.Failing.{risen};
 
@@ -26,6 +26,16 @@ impl Idle {
             connected: false,
         }
     }
+
+    /// Counts a fault.
+    fn fail(&mut self) -> Stop
+        ensures fault { result ≡ Stop.Fault }
+        ensures count { self.new.count ≡ risen self.old.count }
+        ensures later { self.old.count ≤ self.new.count }
+    {
+        self.count = self.count.saturating_add(1);
+        Stop::Fault
+    }
 }
 
 impl Wire for Idle {
@@ -40,8 +50,7 @@ impl Wire for Idle {
         ensures count { self.new.count ≡ risen self.old.count }
         ensures cause { HasCause self.old.count self.new.count result }
     {
-        self.count = self.count.saturating_add(1);
-        Err(Stop::Fault)
+        Err(self.fail())
     }
 
     fn send(&mut self, _bytes: &[u8]) -> Result<(), Stop>
@@ -49,8 +58,7 @@ impl Wire for Idle {
         ensures count { self.new.count ≡ risen self.old.count }
         ensures cause { HasCause self.old.count self.new.count result }
     {
-        self.count = self.count.saturating_add(1);
-        Err(Stop::Fault)
+        Err(self.fail())
     }
 
     fn recv(&mut self, _into: &mut [u8]) -> Result<usize, Stop>
@@ -58,8 +66,7 @@ impl Wire for Idle {
         ensures count { self.new.count ≡ risen self.old.count }
         ensures cause { HasCause self.old.count self.new.count result }
     {
-        self.count = self.count.saturating_add(1);
-        Err(Stop::Fault)
+        Err(self.fail())
     }
 
     fn close(&mut self) {
@@ -87,8 +94,7 @@ impl Helper for Idle {
         ensures count { self.new.count ≡ risen self.old.count }
         ensures cause { HasCause self.old.count self.new.count result }
     {
-        self.count = self.count.saturating_add(1);
-        Err(Stop::Fault)
+        Err(self.fail())
     }
 
     fn faults(&self) -> u64 {

@@ -1,9 +1,9 @@
 // A wire in memory, whose other end is a value.
 ghost use Rattle.skopeo_outside.specs.declared.line.Talk.{Talk};
 ghost use Rattle.std.specs.Prelude.{List, ⊤, [], ◌∷◌, IsFalse, take, ◌≡◌, ◌==◌, ◌&&◌, ◌≤◌, ◌++◌, ◌<◌, Some, is_some, length, IfOk, OnErr, OnOk, IsTrue, IsErrOf};
-ghost use Rattle.skopeo_outside.specs.Wire.{Gains, GoesOn, SendsPart, begun, on_last, with_sent, with_received};
+ghost use Rattle.skopeo_outside.specs.Wire.{SendsPart, begun, on_last, with_sent, with_received};
 ghost use Rattle.skopeo_outside.specs.Talks.{all_kept, kept, kept_last};
-ghost use Rattle.skopeo_outside.specs.Line.{AnswersOf, line_told, line_open, line_peer, line_piece, is_asked, left, IsFresh, KeepsEnd, Comes, Gives};
+ghost use Rattle.skopeo_outside.specs.Line.{AnswersOf, line_told, line_open, line_peer, line_piece, is_asked, left, Begins, Sends, Receives, IsFresh, KeepsEnd, Comes, Gives};
 
 use crate::lists::Many;
 use crate::stop::{Memory, Stop};
@@ -176,7 +176,7 @@ impl<P: Peer + Drop> Wire for SureWire<P> {
 
     fn connect(&mut self, host: &str, port: u16) -> Result<(), Stop>
         ensures open { OnOk result (IsTrue (line_open self.new)) }
-        ensures gained { OnOk result (Gains (begun host.now port ∷ []) (line_told self.old) (line_told self.new)) }
+        ensures gained { OnOk result (Begins host.now port self.old self.new) }
         ensures wanted { OnErr result (IsErrOf result Stop.Memory × (line_told self.new ≡ line_told self.old)) }
         ensures fresh { OnOk result (IsFresh self.new) }
         ensures end { KeepsEnd self.old self.new }
@@ -194,7 +194,7 @@ impl<P: Peer + Drop> Wire for SureWire<P> {
     fn send(&mut self, bytes: &[u8]) -> Result<(), Stop>
         requires { IsTrue (line_open self.old) }
         ensures open { OnOk result (IsTrue (line_open self.new)) }
-        ensures sent { OnOk result (GoesOn (with_sent bytes.now) (line_told self.old) (line_told self.new)) }
+        ensures sent { OnOk result (Sends bytes.now self.old self.new) }
         ensures part { OnErr result (SendsPart bytes.now (line_told self.old) (line_told self.new)) }
         ensures wanted { OnErr result (IsErrOf result Stop.Memory × (line_told self.new ≡ line_told self.old)) }
         ensures asks { OnOk result (IsFalse (is_asked self.new)) }
@@ -209,7 +209,7 @@ impl<P: Peer + Drop> Wire for SureWire<P> {
         requires { IsTrue (line_open self.old) }
         ensures open { OnOk result (IsTrue (line_open self.new)) }
         ensures within { IfOk result (λ count. count ≤ length into.new) }
-        ensures received { IfOk result (λ count. GoesOn (with_received (take count into.new) (count == 0)) (line_told self.old) (line_told self.new)) }
+        ensures received { IfOk result (Receives self.old self.new into.new) }
         ensures gives { IfOk result (Gives P.answers self.old self.new (length into.old) into.new) }
         ensures wanted { OnErr result (IsErrOf result Stop.Memory × (line_told self.new ≡ line_told self.old)) }
     {

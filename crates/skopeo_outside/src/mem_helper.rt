@@ -1,10 +1,9 @@
 // Helpers in memory: a table of replies, and the runs so far.
 ghost use Rattle.std.specs.Prelude.{◌≡◌, ◌∷◌, ◌++◌, ◌≤◌, ◌+◌, [], length, take, Some, IfOk, OnOk, OnErr, IsErrOf};
 ghost use Rattle.std.specs.Option.{option_copied};
-ghost use Rattle.skopeo_outside.specs.Outside.{HasCause};
 ghost use Rattle.skopeo_outside.specs.Failing.{FailsAsListed};
 ghost use Rattle.skopeo_outside.specs.Helper.{GainsRun, ended_run, failed_run};
-ghost use Rattle.skopeo_outside.specs.Replies.{runs_of, run_with, reply_of, status_of, kept_of};
+ghost use Rattle.skopeo_outside.specs.Replies.{runs_of, runs_told, run_with, reply_of, status_of, kept_of};
 
 use crate::failures::Failures;
 use crate::helper::Helper;
@@ -152,7 +151,7 @@ impl SureHelper {
 }
 
 impl Helper for SureHelper {
-    ghost runs = { λ h. Some (runs_of h.ran) };
+    ghost runs = { runs_told };
 
     ghost faults = { λ _. 0 };
 
@@ -164,7 +163,7 @@ impl Helper for SureHelper {
         limit: usize,
         answer: &mut Many<u8>,
     ) -> Result<i32, Stop>
-        ensures ran { IfOk result (λ status. GainsRun (ended_run program.now input.now status answer.new) (Some (runs_of self.old.ran)) (Some (runs_of self.new.ran))) }
+        ensures ran { IfOk result (λ status. GainsRun (ended_run program.now input.now status answer.new) (runs_told self.old) (runs_told self.new)) }
         ensures status { IfOk result (λ status. status ≡ status_of (reply_of self.old.replies program.now input.now)) }
         ensures answer { OnOk result (answer.new ≡ kept_of limit (reply_of self.old.replies program.now input.now)) }
         ensures kept { OnOk result (length answer.new ≤ limit + 1) }
@@ -203,7 +202,7 @@ impl MemHelper {
 }
 
 impl Helper for MemHelper {
-    ghost runs = { λ h. Some (runs_of h.sure.ran) };
+    ghost runs = { λ h. runs_told h.sure };
 
     ghost faults = { λ h. h.failures.count };
 
@@ -215,15 +214,14 @@ impl Helper for MemHelper {
         limit: usize,
         answer: &mut Many<u8>,
     ) -> Result<i32, Stop>
-        ensures ran { IfOk result (λ status. GainsRun (ended_run program.now input.now status answer.new) (Some (runs_of self.old.sure.ran)) (Some (runs_of self.new.sure.ran))) }
+        ensures ran { IfOk result (λ status. GainsRun (ended_run program.now input.now status answer.new) (runs_told self.old.sure) (runs_told self.new.sure)) }
         ensures status { IfOk result (λ status. status ≡ status_of (reply_of self.old.sure.replies program.now input.now)) }
         ensures answer { OnOk result (answer.new ≡ kept_of limit (reply_of self.old.sure.replies program.now input.now)) }
         ensures kept { OnOk result (length answer.new ≤ limit + 1) }
         ensures replies { self.new.sure.replies ≡ self.old.sure.replies }
-        ensures failed { IsErrOf result Stop.Fault → GainsRun (failed_run program.now input.now) (Some (runs_of self.old.sure.ran)) (Some (runs_of self.new.sure.ran)) }
+        ensures failed { IsErrOf result Stop.Fault → GainsRun (failed_run program.now input.now) (runs_told self.old.sure) (runs_told self.new.sure) }
         ensures wanted { IsErrOf result Stop.Memory → self.new.sure.ran ≡ self.old.sure.ran }
         ensures calls { FailsAsListed self.old.failures self.new.failures result }
-        ensures cause { HasCause self.old.failures.count self.new.failures.count result }
     {
         if self.failures.next().is_err() {
             self.sure.note(program, input, None)?;

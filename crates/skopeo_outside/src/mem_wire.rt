@@ -1,9 +1,8 @@
 // A wire in memory with a list of the calls that are to fail.
-ghost use Rattle.std.specs.Prelude.{◌≡◌, ◌==◌, ◌≤◌, ◌/◌, ◌∷◌, [], Some, take, length, IfOk, OnOk, OnErr, IsErrOf, IsTrue, IsFalse};
-ghost use Rattle.skopeo_outside.specs.Outside.{HasCause};
-ghost use Rattle.skopeo_outside.specs.Failing.{FailsAsListed};
-ghost use Rattle.skopeo_outside.specs.Wire.{Gains, GoesOn, SendsPart, begun, with_sent, with_received};
-ghost use Rattle.skopeo_outside.specs.Line.{line_told, line_open, line_peer, line_piece, is_asked, IsFresh, KeepsEnd, Gives};
+ghost use Rattle.std.specs.Prelude.{◌≡◌, ◌≤◌, [], Some, length, IfOk, OnOk, OnErr, IsErrOf, IsTrue, IsFalse};
+ghost use Rattle.skopeo_outside.specs.Failing.{FailsAsListed, first_half};
+ghost use Rattle.skopeo_outside.specs.Wire.{SendsPart};
+ghost use Rattle.skopeo_outside.specs.Line.{line_told, line_open, line_peer, line_piece, is_asked, Begins, Sends, Receives, IsFresh, KeepsEnd, Gives};
 
 use crate::failures::Failures;
 use crate::line::{Peer, SureWire};
@@ -13,7 +12,7 @@ use std::alloc::Global;
 
 /// The first half of a piece.
 fn first_half(bytes: &[u8]) -> &[u8]
-    ensures { result.now ≡ take (length bytes.now / 2) bytes.now }
+    ensures { result.now ≡ first_half bytes.now }
 {
     &bytes[..bytes.len() / 2]
 }
@@ -52,13 +51,12 @@ impl<P: Peer + Drop> Wire for MemWire<P> {
 
     fn connect(&mut self, host: &str, port: u16) -> Result<(), Stop>
         ensures open { OnOk result (IsTrue (line_open self.new.line)) }
-        ensures gained { OnOk result (Gains (begun host.now port ∷ []) (line_told self.old.line) (line_told self.new.line)) }
-        ensures failed { IsErrOf result Stop.Fault → Gains (begun host.now port ∷ []) (line_told self.old.line) (line_told self.new.line) }
+        ensures gained { OnOk result (Begins host.now port self.old.line self.new.line) }
+        ensures failed { IsErrOf result Stop.Fault → Begins host.now port self.old.line self.new.line }
         ensures wanted { IsErrOf result Stop.Memory → line_told self.new.line ≡ line_told self.old.line }
         ensures fresh { OnOk result (IsFresh self.new.line) }
         ensures end { KeepsEnd self.old.line self.new.line }
         ensures calls { FailsAsListed self.old.failures self.new.failures result }
-        ensures cause { HasCause self.old.failures.count self.new.failures.count result }
     {
         let fails = self.failures.next();
         self.line.connect(host, port)?;
@@ -69,14 +67,13 @@ impl<P: Peer + Drop> Wire for MemWire<P> {
     fn send(&mut self, bytes: &[u8]) -> Result<(), Stop>
         requires { IsTrue (line_open self.old.line) }
         ensures open { OnOk result (IsTrue (line_open self.new.line)) }
-        ensures sent { OnOk result (GoesOn (with_sent bytes.now) (line_told self.old.line) (line_told self.new.line)) }
+        ensures sent { OnOk result (Sends bytes.now self.old.line self.new.line) }
         ensures part { OnErr result (SendsPart bytes.now (line_told self.old.line) (line_told self.new.line)) }
-        ensures half { IsErrOf result Stop.Fault → GoesOn (with_sent (take (length bytes.now / 2) bytes.now)) (line_told self.old.line) (line_told self.new.line) }
+        ensures half { IsErrOf result Stop.Fault → Sends (first_half bytes.now) self.old.line self.new.line }
         ensures wanted { IsErrOf result Stop.Memory → line_told self.new.line ≡ line_told self.old.line }
         ensures asks { OnOk result (IsFalse (is_asked self.new.line)) }
         ensures end { KeepsEnd self.old.line self.new.line }
         ensures calls { FailsAsListed self.old.failures self.new.failures result }
-        ensures cause { HasCause self.old.failures.count self.new.failures.count result }
     {
         if let Err(stop) = self.failures.next() {
             self.line.send(first_half(bytes))?;
@@ -89,12 +86,11 @@ impl<P: Peer + Drop> Wire for MemWire<P> {
         requires { IsTrue (line_open self.old.line) }
         ensures open { OnOk result (IsTrue (line_open self.new.line)) }
         ensures within { IfOk result (λ count. count ≤ length into.new) }
-        ensures received { IfOk result (λ count. GoesOn (with_received (take count into.new) (count == 0)) (line_told self.old.line) (line_told self.new.line)) }
+        ensures received { IfOk result (Receives self.old.line self.new.line into.new) }
         ensures gives { IfOk result (Gives P.answers self.old.line self.new.line (length into.old) into.new) }
         ensures nothing { OnErr result (line_told self.new.line ≡ line_told self.old.line) }
         ensures failed { IsErrOf result Stop.Fault → self.new.line ≡ self.old.line }
         ensures calls { FailsAsListed self.old.failures self.new.failures result }
-        ensures cause { HasCause self.old.failures.count self.new.failures.count result }
     {
         self.failures.next()?;
         self.line.recv(into)
