@@ -5,7 +5,9 @@ ghost use Rattle.std.specs.Str.{bytes_eq};
 ghost use Rattle.copy_workers.specs.Jobs.{AreJobs};
 ghost use Rattle.copy_workers.specs.Asked.{answers_to};
 
-use copy_workers::{Asked, BlobLane, BlobMismatch, Cause, Done, How, JobFault, Receipt, secure_all};
+use copy_workers::{
+    Asked, BlobLane, BlobMismatch, Cause, Done, How, JobFault, Receipt, secure_all,
+};
 use digest_reader::Job;
 use image_ref::Digest;
 use location_cache::Cache;

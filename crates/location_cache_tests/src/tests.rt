@@ -218,7 +218,11 @@ fn newest_repositories_are_offered(rt: HostRuntime) -> Result<(), Fail> {
     let mut cache = Cache::new(alloc, rows)?;
     assert_eq!(rt; offered(alloc, &cache, 7, "")?.as_str(), " 5 4 3 2");
     assert_eq!(rt; offered(alloc, &cache, 7, "4")?.as_str(), " 5 3 2 1");
-    assert_eq!(rt; offered(alloc, &cache, 8, "")?.as_str(), "", "another digest");
+    assert_eq!(rt;
+        offered(alloc, &cache, 8, "")?.as_str(),
+        "",
+        "another digest"
+    );
     cache.learn(row(alloc, 7, "1")?);
     assert_eq!(rt; offered(alloc, &cache, 7, "")?.as_str(), " 1 5 4 3");
     Ok(())
@@ -233,6 +237,8 @@ fn another_host_has_no_rows(rt: HostRuntime) -> Result<(), Fail> {
     let digest = Digest::from_bytes([7; 32]);
     assert_eq!(rt; cache.candidates("h", &digest, "").count(), 1);
     assert_eq!(rt; cache.candidates("h:80", &digest, "").count(), 0);
+    let none = Cache::new(rt.alloc(), Many::new(rt.alloc()))?;
+    assert_eq!(rt; none.candidates("h", &digest, "").count(), 0);
     Ok(())
 }
 
@@ -246,7 +252,10 @@ fn full_cache_loses_its_oldest_row(rt: HostRuntime) -> Result<(), Fail> {
     let mut cache = Cache::new(alloc, rows)?;
     cache.learn(row(alloc, 7, "0")?);
     assert_eq!(rt; offered(alloc, &cache, 8, "")?.as_str(), " first");
-    assert_eq!(rt; offered(alloc, &cache, 7, "")?.as_str(), " 0 4094 4093 4092");
+    assert_eq!(rt;
+        offered(alloc, &cache, 7, "")?.as_str(),
+        " 0 4094 4093 4092"
+    );
     cache.learn(row(alloc, 7, "new")?);
     assert_eq!(rt; offered(alloc, &cache, 8, "")?.as_str(), "");
     Ok(())

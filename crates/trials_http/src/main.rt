@@ -3,6 +3,7 @@
 
 mod bodies;
 mod exchanges;
+mod labs;
 mod messages;
 mod outcomes;
 mod registry;
@@ -29,6 +30,8 @@ fn answer(alloc: Global, call: &str, input: &str) -> Result<Text, Memory> {
         "body" => bodies::body(alloc, input),
         "calls" => bodies::calls(alloc, input),
         "registry" => registry::registry(alloc, input),
+        "connection" => labs::connection(alloc, input),
+        "task" => labs::task(alloc, input),
         method => exchanges::exchanged(alloc, method, input),
     }
 }
