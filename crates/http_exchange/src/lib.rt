@@ -23,6 +23,3 @@ pub use exchanging::exchange;
 pub use law::plain_exchanges;
 pub use location::port_of;
 pub use pieces::{begin, end, send_piece};
-
-#[cfg(test)]
-mod tests;

@@ -37,6 +37,3 @@ pub use sink::{MemSink, Sink, SureSink};
 pub use stop::{Memory, Stop};
 pub use wire::Wire;
 pub use words::{Fetched, Step, What};
-
-#[cfg(test)]
-mod tests;
