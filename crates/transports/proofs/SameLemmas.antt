@@ -24,7 +24,7 @@ use Rattle.transports.specs.Given.{SameIn, Spares}
 use Rattle.transports.specs.Has.{IsUntouched, OnlyAtDest, KeepsBlobs, KeepsAllBlobs, RemovesInOrder}
 use Rattle.transports.specs.Writes.{Spot, AtPath, KeepsManifests, KeepsOthers, WritesNone, WritesOnly}
 use Rattle.transports.specs.Fair.{IsFair, IsFairOn, IsWork, Works}
-use Rattle.transports.specs.Uploads.{Holds, TookFront, TookSome, OnlyPart}
+use Rattle.transports.specs.Uploads.{Holds, TookFront, TookSome, OnlyPart, SamePart, IsLeft}
 
 pub later_now : (a : LaneTold) → IsLater a a
 later_now a = later_same a
@@ -90,3 +90,10 @@ append_nil (x ∷ t) = ap (λ s. x ∷ s) (append_nil t)
 -- of a piece nothing was taken
 pub took_none : (dest : Dest) (job : Job) (u : Upload) (old new : LaneTold) (bytes piece : List ℕ) → Holds dest job u old new bytes → TookSome dest job old new bytes piece
 took_none dest job u old new bytes piece holds = record { count = 0; took = subst (TookFront dest job old new) (sym (append_nil bytes)) holds.took }
+
+pub left_same : (s : Source) (dest : Dest) (job : Job) (a : LaneTold) → IsLeft s dest job a a
+unfolding SamePart
+left_same s (Folder path) job a = record {
+  only = part_same (Folder path) job a;
+  part = inl (told_same (λ t u. let part = blob_part path job.digest a.number in (file_at u part ≡ file_at t part) ⊎ (file_at u part ≡ None)) (λ t. inl refl) a.files.tree);
+}
