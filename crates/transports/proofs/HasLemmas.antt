@@ -9,7 +9,7 @@ use Rattle.layouts.specs.Trees.{OnlyIn}
 use Rattle.layouts.specs.Paths.{IsIn, IsManifestPath}
 use Rattle.transports.specs.declared.dest.Dest.{Dest}
 use Rattle.transports.specs.declared.dest.Dest.TheVariants.{Folder}
-use Rattle.transports.specs.Has.{HasBlob, KeepsBlobs, KeepsAllBlobs, IsUntouched}
+use Rattle.transports.specs.Has.{HasBlob, KeepsBlobs, KeepsAllBlobs, IsReported, IsUntouched}
 
 -- what it has by two states it has by wider ones
 pub has_earlier : (dest : Dest) (job : Job) (a b c : LaneTold) → IsLater a b → HasBlob dest job b c → HasBlob dest job a c
@@ -21,3 +21,12 @@ keeps_then dest job a b c r s = λ other first apart has. s other first apart (r
 
 pub untouched_then : (a b c : LaneTold) → IsUntouched a b → IsUntouched b c → IsUntouched a c
 untouched_then a b c r s = record { files = s.files ∙ r.files; to = s.to ∙ r.to }
+
+-- what the destination reported it reported between wider states
+pub reported_earlier : (dest : Dest) (job : Job) (a b c : LaneTold) → IsLater a b → IsReported dest job b c → IsReported dest job a c
+unfolding IsReported
+reported_earlier (Folder path) job a b c later has = has
+
+pub reported_later : (dest : Dest) (job : Job) (a b c : LaneTold) → IsReported dest job a b → IsReported dest job a c
+unfolding IsReported
+reported_later (Folder path) job a b c has = absurd has

@@ -4,6 +4,8 @@ use Rattle.skopeo_outside.specs.Tree.{Tree, file_at}
 use Rattle.skopeo_outside.specs.Outside.{Told}
 use Rattle.skopeo_outside.specs.LaneTold.{LaneTold, IsLater}
 use Rattle.skopeo_outside.specs.LaneLaws.{later_same, told_same}
+use Rattle.skopeo_outside.specs.Seen.{OnEach}
+use Rattle.skopeo_outside.proofs.PlaceLemmas.{each_self}
 use Rattle.skopeo_outside.specs.Steps.{Step, Course, Ends}
 use Rattle.digest_reader.specs.declared.job.Job.{Job}
 use Rattle.layouts.specs.Trees.{OnlyIn, OnlyAt, SameOrGone}
@@ -22,8 +24,8 @@ use Rattle.transports.specs.Courses.{lane_course}
 use Rattle.transports.specs.StepEnds.{FailsFreely, FailsBy}
 use Rattle.transports.specs.Given.{SameIn, Spares}
 use Rattle.transports.specs.Has.{IsUntouched, OnlyAtDest, KeepsBlobs, KeepsAllBlobs, RemovesInOrder}
-use Rattle.transports.specs.Writes.{Spot, AtPath, KeepsManifests, KeepsOthers, WritesNone, WritesOnly}
-use Rattle.transports.specs.Fair.{IsFair, IsFairOn, IsWork, Works}
+use Rattle.transports.specs.Writes.{Spot, AtPath, KeepsManifests, KeepsOthers, WritesNone, WritesOnly, WritesNowhere}
+use Rattle.transports.specs.Fair.{IsFair, IsFairOn, IsWork, Works, AllWork}
 use Rattle.transports.specs.Uploads.{Holds, TookFront, TookSome, OnlyPart, SamePart, IsLeft}
 
 pub later_now : (a : LaneTold) → IsLater a a
@@ -92,8 +94,18 @@ pub took_none : (dest : Dest) (job : Job) (u : Upload) (old new : LaneTold) (byt
 took_none dest job u old new bytes piece holds = record { count = 0; took = subst (TookFront dest job old new) (sym (append_nil bytes)) holds.took }
 
 pub left_same : (s : Source) (dest : Dest) (job : Job) (a : LaneTold) → IsLeft s dest job a a
-unfolding SamePart
+unfolding SamePart IsLeft
 left_same s (Folder path) job a = record {
   only = part_same (Folder path) job a;
   part = inl (told_same (λ t u. let part = blob_part path job.digest a.number in (file_at u part ≡ file_at t part) ⊎ (file_at u part ≡ None)) (λ t. inl refl) a.files.tree);
 }
+
+-- ---- on all lanes
+
+pub all_work_same : (dest : Dest) (lanes : List LaneTold) → AllWork dest lanes lanes
+unfolding AllWork
+all_work_same dest lanes = each_self (λ place a b. Works dest a b) (λ place a. works_same dest a) lanes
+
+pub nowhere_same : (lanes : List LaneTold) → WritesNowhere lanes lanes
+unfolding WritesNowhere
+nowhere_same lanes = each_self (λ place a b. WritesNone a b) (λ place a. none_same a) lanes

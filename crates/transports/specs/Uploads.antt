@@ -61,9 +61,12 @@ pub record TookSome (dest : Dest) (job : Job) (old new : LaneTold) (before piece
   pub took : TookFront dest job old new (before ++ take count piece)
 
 -- what is left of a blob that was not secured: its part is as it was or gone, or holds first bytes that the source gave
-pub record IsLeft (source : Source) (dest : Dest) (job : Job) (old new : LaneTold) : Type 0 where
+pub record LeavesFront (source : Source) (dest : Dest) (job : Job) (old new : LaneTold) : Type 0 where
   pub only : OnlyPart dest job old new
   pub part : SamePart dest job old new ⊎ ((bytes : List ℕ) × TookFront dest job old new bytes × GaveFront source job old new bytes)
+
+unfoldable pub IsLeft : Source → Dest → Job → LaneTold → LaneTold → Type 0
+IsLeft source dest job old new = LeavesFront source dest job old new
 
 -- other bytes than the job's were found
 abbrev pub is_mismatch : Cause → Bool
