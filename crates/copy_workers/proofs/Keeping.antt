@@ -31,7 +31,7 @@ apart js j h k d lk = h (get_or js k d) (k, lk, any_default js k _ _ lk)
 module _ {L O : Type 0} (tells : Lore L O) where
   pub keeps_none : (lane : L) → KeepsAll tells [] lane lane
   keeps_none lane = record {
-    others = record { stays = λ o a. (λ s. s, λ s. s); fails = λ o a. refl; names = λ o a. refl; asks = λ o a. refl; target = refl; origin = refl };
+    others = record { stays = λ o a s. s; fails = λ o a. refl; names = λ o a. refl; asks = λ o a. refl; target = refl; origin = refl };
     mounts = λ j h. refl;
   }
 
@@ -40,7 +40,7 @@ module _ {L O : Type 0} (tells : Lore L O) where
       → KeepsAll tells js old mid → tells.named new job ≡ tells.named mid job → Keeps tells job mid new → KeepsAll tells js old new
   keeps_more js job old mid new here split before names keeps = record {
     others = record {
-      stays = λ o a. (let b = before.others.stays o a in let k = keeps.stays o (All-contains (λ j. o.digest ≢ j.digest) js job a here) in (λ s. k.0 (b.0 s), λ s. b.1 (k.1 s)));
+      stays = λ o a. (let b = before.others.stays o a in let k = keeps.stays o (All-contains (λ j. o.digest ≢ j.digest) js job a here) in (λ s. k (b s)));
       fails = λ o a. keeps.fails o (All-contains (λ j. o.digest ≢ j.digest) js job a here) ∙ before.others.fails o a;
       names = λ o a. keeps.names o (All-contains (λ j. o.digest ≢ j.digest) js job a here) ∙ before.others.names o a;
       asks = λ o a. keeps.asks o (All-contains (λ j. o.digest ≢ j.digest) js job a here) ∙ before.others.asks o a;

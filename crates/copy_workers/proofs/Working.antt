@@ -87,7 +87,7 @@ not_this n job before now is none = grind (arith, nat_tests)
 
 module _ {L O : Type 0} (tells : Lore L O) where
   ends_kept : (job other : Job) (old new : L) (end : Result How Cause) → Keeps tells job old new → other.digest ≢ job.digest → EndsAs tells old other end → EndsAs tells new other end
-  ends_kept job other old new (Ok how) keeps ne e = ((keeps.stays other ne).0 e.0, keeps.fails other ne ∙ e.1, keeps.asks other ne ∙ e.2)
+  ends_kept job other old new (Ok how) keeps ne e = (keeps.stays other ne e.0, keeps.fails other ne ∙ e.1, keeps.asks other ne ∙ e.2)
   ends_kept job other old new (Err cause) keeps ne e = (keeps.fails other ne ∙ e.0, subst Failed (sym (keeps.asks other ne)) e.1)
 
   module _ (jobs : List Job) (job : Job) (n k : ℕ) (lane : L) (outcomes : List Outcome) (v : View) where

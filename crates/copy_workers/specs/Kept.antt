@@ -1,5 +1,5 @@
 -- What running jobs leaves as it was.
-use Rattle.std.specs.Prelude.{◌≡◌, ◌≢◌, ◌↔◌, ◌<◌, ℕ, List, All, Contains, length, slice_index_or}
+use Rattle.std.specs.Prelude.{◌≡◌, ◌≢◌, ◌<◌, ℕ, List, All, Contains, length, slice_index_or}
 use Rattle.digest_reader.specs.declared.job.Job.{Job}
 use Rattle.copy_workers.specs.Lanes.{Lore}
 
@@ -8,7 +8,7 @@ module _ {L O : Type 0} (tells : Lore L O) where
   -- stay
   pub record KeepsOthers (jobs : List Job) (old new : L) : Type 0 where
     pub stays : (other : Job) → All (λ j. other.digest ≢ j.digest) jobs
-        → tells.secured old other ↔ tells.secured new other
+        → tells.secured old other → tells.secured new other
     pub fails : (other : Job) → All (λ j. other.digest ≢ j.digest) jobs
         → tells.failed new other ≡ tells.failed old other
     pub names : (other : Job) → All (λ j. other.digest ≢ j.digest) jobs

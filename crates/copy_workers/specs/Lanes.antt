@@ -1,5 +1,5 @@
 -- What a lane tells of jobs, and what a call for one job leaves as it was.
-use Rattle.std.specs.Prelude.{◌≡◌, ◌≢◌, ◌↔◌, ℕ, Option, Some, None, Result, Ok, Err, List, [], ◌∷◌, ◌++◌, All}
+use Rattle.std.specs.Prelude.{◌≡◌, ◌≢◌, ℕ, Option, Some, None, Result, Ok, Err, List, [], ◌∷◌, ◌++◌, All}
 use Rattle.digest_reader.specs.declared.job.Job.{Job}
 use Rattle.copy_workers.specs.declared.asked.LaneAnswer.{LaneAnswer}
 use Rattle.copy_workers.specs.declared.cause.Cause.{Cause}
@@ -28,7 +28,7 @@ module _ {L O : Type 0} (tells : Lore L O) where
   -- of a job of another digest the lane tells as before, and was asked nothing; target and origin stay
   pub record Keeps (job : Job) (old new : L) : Type 0 where
     pub stays : (other : Job) → other.digest ≢ job.digest
-        → tells.secured old other ↔ tells.secured new other
+        → tells.secured old other → tells.secured new other
     pub fails : (other : Job) → other.digest ≢ job.digest → tells.failed new other ≡ tells.failed old other
     pub names : (other : Job) → other.digest ≢ job.digest → tells.named new other ≡ tells.named old other
     pub asks : (other : Job) → other.digest ≢ job.digest → tells.asked new other ≡ tells.asked old other

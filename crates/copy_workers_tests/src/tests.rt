@@ -1,5 +1,5 @@
 // Jobs over lanes of the tests' own.
-ghost use Rattle.std.specs.Prelude.{◌↔◌, ◌≡◌, ◌≢◌, ◌≤◌, ◌<◌, ℕ, All, List, Option, Some, None, [], Contains, IsTrue, IfOk, IfErr, OnOk, OnErr, vec_len, cond};
+ghost use Rattle.std.specs.Prelude.{◌≡◌, ◌≢◌, ◌≤◌, ◌<◌, ℕ, All, List, Option, Some, None, [], Contains, IsTrue, IfOk, IfErr, OnOk, OnErr, vec_len, cond};
 ghost use Rattle.std.specs.Option.{option_and_then};
 ghost use Rattle.std.specs.Str.{bytes_eq};
 ghost use Rattle.copy_workers.specs.Jobs.{AreJobs};
@@ -154,7 +154,7 @@ impl<'w> Toy<'w> {
             → option_and_then (λ f. cond (bytes_eq f.digest other) (Some f.cause.value) None) self.new.fault ≡ None) }
         ensures calm { OnOk result (self.new.fault ≡ self.old.fault) }
         ensures stays { (other : List ℕ) → other ≢ job.now.digest
-            → Contains self.old.secured.items other ↔ Contains self.new.secured.items other }
+            → Contains self.old.secured.items other → Contains self.new.secured.items other }
         ensures same { (self.new.number ≡ self.old.number) × (self.new.asked ≡ self.old.asked) }
     {
         if !self.world.there.contains(&job.number) {
@@ -176,7 +176,7 @@ impl<'w> Toy<'w> {
             → option_and_then (λ f. cond (bytes_eq f.digest other) (Some f.cause.value) None) self.new.fault ≡ None) }
         ensures calm { OnOk result (self.new.fault ≡ self.old.fault) }
         ensures stays { (other : List ℕ) → other ≢ job.now.digest
-            → Contains self.old.secured.items other ↔ Contains self.new.secured.items other }
+            → Contains self.old.secured.items other → Contains self.new.secured.items other }
         ensures same { (self.new.number ≡ self.old.number) × (self.new.asked ≡ self.old.asked) }
     {
         if !self.meets() {

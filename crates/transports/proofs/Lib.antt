@@ -1,0 +1,4 @@
+pub mod SameLemmas
+pub mod GivenLemmas
+pub mod HasLemmas
+pub mod WorkLemmas

@@ -1,0 +1,13 @@
+pub mod Places
+pub mod Refusals
+pub mod Courses
+pub mod Blobs
+pub mod Given
+pub mod Has
+pub mod Writes
+pub mod Fair
+pub mod Uploads
+pub mod StepEnds
+pub mod Named
+pub use Rattle.skopeo_outside.specs.LaneTold.{LaneTold, IsLater}
+pub use Rattle.skopeo_outside.specs.Steps.{Ends, Says}

@@ -1,0 +1,15 @@
+use skopeo_outside::Text;
+
+/// A blob that is read at its source, one variant a kind of source.
+#[derive(Debug, Drop)]
+pub enum Blob {
+    /// A file of a folder, of which so many bytes were given.
+    File(Text, u64),
+}
+
+/// A blob that is written at its destination and not named yet, one variant a kind of destination.
+#[derive(Debug, Drop)]
+pub enum Upload {
+    /// The part file of a lane.
+    File(Text),
+}

@@ -1,0 +1,47 @@
+// Why a copy ends without success.
+ghost use Rattle.std.specs.Prelude.{◌≡◌};
+ghost use Rattle.transports.specs.declared.refusal.Refusal.TheVariants as refusal;
+
+use copy_workers::Cause;
+use skopeo_outside::{Memory, Text, What};
+
+/// What is not built yet.
+#[derive(Clone, Copy, Debug, PartialEq, Eq)]
+pub enum Part {
+    Policy,
+    Manifest,
+    Place,
+}
+
+/// Why a requirement does not hold.
+#[derive(Clone, Copy, Debug, PartialEq, Eq)]
+pub enum Why {
+    Reject,
+    Sigstore,
+}
+
+/// Why the copy of an image ended. A job goes by its number, a requirement by its place, both from 1, and by the scope of
+/// its list, `None` for the default one.
+#[derive(Debug, Drop)]
+pub enum Refusal {
+    NotBuilt(Part),
+    /// The folder at this path holds no image, or as a destination something else than an image.
+    NotAnImageDir(Text),
+    /// So many were come to of what is counted, one more than there may be: bytes, or signatures.
+    TooLarge(What, u64),
+    /// The bytes are no manifest; the first bad member by its JSON pointer (RFC 6901).
+    ManifestInvalid(Text),
+    Rejected(Option<Text>, u32, Why),
+    Job(u32, Cause),
+    Files(u64),
+    Wire(u64),
+    Memory,
+}
+
+impl From<Memory> for Refusal {
+    ghost from_gives = { λ _ e. e ≡ refusal.Memory };
+
+    fn from(_: Memory) -> Self {
+        Refusal::Memory
+    }
+}
