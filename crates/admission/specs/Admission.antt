@@ -74,4 +74,4 @@ where_judged (Err e) image = Err e
 unfoldable pub admitted_of : PolicyLists → Place → Fetched → Kind → Image → List (List ℕ) → Result Admission Refusal
 admitted_of policy place fetched kind image signatures =
     where_judged (judged_by (chosen policy place))
-      (record { policy = policy; place = place; manifest = fetched.bytes; kind = kind; image = image; jobs = blobs image; signatures = signatures })
+    (record { policy = policy; place = place; manifest = fetched.bytes; kind = kind; image = image; jobs = blobs image; signatures = signatures })

@@ -8,7 +8,7 @@ mod parts;
 mod take;
 mod walk;
 
-pub use walk::admit_source;
 pub use admitted::{Admitted, admit};
 pub use found::{Found, find_source};
 pub use take::Taken;
+pub use walk::admit_source;

@@ -31,6 +31,14 @@ pub fn admit_source<W: Wire, F: Files>(
     let kind = require_kind(alloc, &it.fetched)?;
     let image = read_parts(alloc, kind, &it.fetched)?;
     let signatures = it.from.read_signatures(alloc, lane, None)?;
-    let admitted = admit(alloc, policy, &plan.source, it.fetched, kind, image, signatures)?;
+    let admitted = admit(
+        alloc,
+        policy,
+        &plan.source,
+        it.fetched,
+        kind,
+        image,
+        signatures,
+    )?;
     take(it.from, admitted)
 }

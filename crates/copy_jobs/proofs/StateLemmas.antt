@@ -108,7 +108,7 @@ sound_failed l lane asked job e so works fails = record {
   where
     since : FailsBy l.source job e l.origin lane
     since = fails_earlier l.source l.dest job e l.origin l.lane lane (works_later l.dest l.origin l.lane so.works)
-      (λ r. blob_earlier l.source job l.origin l.lane lane (Err r) (only_spares l.source l.dest l.origin l.lane so.apart (works_only l.dest l.origin l.lane so.works))) fails
+        (λ r. blob_earlier l.source job l.origin l.lane lane (Err r) (only_spares l.source l.dest l.origin l.lane so.apart (works_only l.dest l.origin l.lane so.works))) fails
 
 -- a job that was done now was done since the lane was made
 pub done_since : (l : LaneState) (lane : LaneTold) (job : Job) → IsSound l → IsDone l.source l.dest job l.lane lane → IsDone l.source l.dest job l.origin lane

@@ -61,12 +61,7 @@ impl<'a, W: Wire, F: Files> Model for EngineLane<'a, W, F> {
 impl<'a, W: Wire, F: Files> EngineLane<'a, W, F> {
     /// A lane of which no job was asked.
     #[tactic(auto, using(crate::proofs::FreshLemmas::sound_fresh, crate::proofs::FreshLemmas::fresh_is))]
-    pub(crate) fn new(
-        alloc: Global,
-        lane: Lane<W, F>,
-        source: &'a Source,
-        dest: &'a Dest,
-    ) -> Self
+    pub(crate) fn new(alloc: Global, lane: Lane<W, F>, source: &'a Source, dest: &'a Dest) -> Self
         requires apart { AreApart source.now dest.now }
         ensures fresh { IsFresh source.now dest.now lane result }
     {

@@ -25,7 +25,8 @@ fn lend_one<'a, W: Wire, F: Files>(
     ensures lanes_room { vec_capacity lanes.new ≡ vec_capacity lanes.old }
 {
     let lane = lanes.remove(0);
-    list.push(EngineLane::new(alloc, lane, source, dest)).unwrap();
+    list.push(EngineLane::new(alloc, lane, source, dest))
+        .unwrap();
 }
 
 /// Lends so many first lanes.

@@ -65,8 +65,8 @@ pub front_later : (s : Source) (job : Job) (a b c : LaneTold) (given : List ℕ)
 unfolding GaveFront Spares
 front_later (Folder path) job a b c given front same =
     told_then (IsFrontIn (blob_path path job.digest) given) (SameIn path) (IsFrontIn (blob_path path job.digest) given)
-      (λ x y z p q. record { bytes = p.bytes; was = p.was; is = q (blob_path path job.digest) (blob_in path job.digest) ∙ p.is; within = p.within; front = p.front })
-      a.files.tree b.files.tree c.files.tree front same
+    (λ x y z p q. record { bytes = p.bytes; was = p.was; is = q (blob_path path job.digest) (blob_in path job.digest) ∙ p.is; within = p.within; front = p.front })
+    a.files.tree b.files.tree c.files.tree front same
 
 pub given_later : (s : Source) (job : Job) (blob : Blob) (a b c : LaneTold) (given : List ℕ) → HasGiven s job blob a b given → Spares s b c → HasGiven s job blob a c given
 given_later s job blob a b c given has same = record { of_job = has.of_job; count = has.count; front = front_later s job a b c given has.front same }
