@@ -28,7 +28,7 @@ pub record Delivers (policy : PolicyLists) (plan : CopyPlan) (copied : Copied) (
   pub converted : IsConversion image image.kind bytes
   pub named : OnFirst (IsNamed to None bytes) old.lanes new.lanes
   pub signed : OnFirst (AreSigned to None image.signatures) old.lanes new.lanes
-  pub alone : OnFirst (λ a b. IsAlone to image.jobs image.signatures b) old.lanes new.lanes
+  pub alone : OnFirst (IsAlone to image.jobs image.signatures) old.lanes new.lanes
   pub others : OnEach (λ place a b. (place ≡ 0) ⊎ AddsOnly to (IsOfJobs image.jobs) a b) old.lanes new.lanes
   pub done : AreDone from to image.jobs (length image.jobs) old.lanes new.lanes
   pub told : copied ≡ copied_of image

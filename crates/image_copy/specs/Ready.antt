@@ -10,7 +10,7 @@ use Rattle.transports.specs.declared.report.CopiedRow.{CopiedRow}
 use Rattle.transports.specs.Has.{IsUntouched, MayTake, OnlyAtDest, KeepsAllBlobs}
 use Rattle.transports.specs.Fair.{IsFairOn}
 use Rattle.transports.specs.Writes.{WritesOnly, spot_of}
-use Rattle.transports.specs.Named.{IsNamed, AreSigned, IsAlone, AddsOnly, IsOfJobs}
+use Rattle.transports.specs.Named.{IsNamed, AreSigned, IsAlone, HasNoManifest, AddsOnly, IsOfJobs}
 use Rattle.admission.specs.Admission.{Admission, IsAdmitted}
 use Rattle.copy_jobs.specs.Secured.{AreSecured, AreReceipts}
 use Rattle.image_copy.specs.Headline.{IsConversion}
@@ -45,12 +45,14 @@ pub record IsMadeOf (dest : Dest) (image : Admission) (row : CopiedRow) (old new
   pub entry_is : r.entry ≡ old
   pub made_is : r.made ≡ new
 
--- on the first lane the destination holds blobs of these jobs and nothing else; on the others nothing else was added
+-- on the first lane the destination holds blobs of these jobs and nothing else, and no manifest; on the others nothing else
+-- was added
 pub record IsFilled (dest : Dest) (jobs : List Job) (old new : List LaneTold) : Type 0 where
-  pub first : OnFirst (λ a b. IsAlone dest jobs [] b) old new
+  pub first : OnFirst (IsAlone dest jobs []) old new
+  pub cleared : OnFirst (HasNoManifest dest) old new
   pub others : OnEach (λ place a b. (place ≡ 0) ⊎ AddsOnly dest (IsOfJobs jobs) a b) old new
 
--- nothing was touched, or the destination could be replaced as it was at first
+-- nothing was touched on any lane, or the destination could be replaced as it was at first
 unfoldable pub TakesLate : Dest → List LaneTold → List LaneTold → Type 0
 TakesLate dest old new = OnEach (λ place a b. IsUntouched a b) old new ⊎ OnFirst (λ a b. MayTake dest a) old new
 
@@ -59,7 +61,7 @@ TakesLate dest old new = OnEach (λ place a b. IsUntouched a b) old new ⊎ OnFi
 pub record IsFinished (r : ReadyImage) (old new : LaneTold) : Type 0 where
   pub named : IsNamed r.dest None r.bytes old new
   pub signed : AreSigned r.dest None r.image.signatures old new
-  pub alone : IsAlone r.dest r.image.jobs [] old → IsAlone r.dest r.image.jobs r.image.signatures new
+  pub alone : (entry : LaneTold) → IsAlone r.dest r.image.jobs [] entry old → IsAlone r.dest r.image.jobs r.image.signatures entry new
 
 -- what the writing of a manifest leaves on a lane: at most this manifest was written, at its spot; nothing but the destination
 -- was touched, each path in it is fair, and each blob that it had it has

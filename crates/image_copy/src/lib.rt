@@ -3,6 +3,7 @@
 
 mod copy;
 mod ready;
+mod report;
 mod write;
 
 pub use copy::copy_image;
