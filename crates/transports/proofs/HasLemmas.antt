@@ -9,12 +9,12 @@ use Rattle.layouts.specs.Trees.{OnlyIn}
 use Rattle.layouts.specs.Paths.{IsIn, IsManifestPath}
 use Rattle.transports.specs.declared.dest.Dest.{Dest}
 use Rattle.transports.specs.declared.dest.Dest.TheVariants.{Folder}
-use Rattle.transports.specs.Has.{HasBlob, KeepsBlobs, KeepsAllBlobs, IsReported, IsUntouched}
+use Rattle.transports.specs.Has.{StandsIn, HasBlob, KeepsBlobs, KeepsAllBlobs, IsReported, IsUntouched}
 
 -- what it has by two states it has by wider ones
 pub has_earlier : (dest : Dest) (job : Job) (a b c : LaneTold) → IsLater a b → HasBlob dest job b c → HasBlob dest job a c
 unfolding HasBlob
-has_earlier (Folder path) job a b c later has = has
+has_earlier (Folder path) job a b c later has = told_then (λ _ _. Unit {0}) (λ x y. StandsIn path job y) (λ x y. StandsIn path job y) (λ x y z p q. q) a.files.tree b.files.tree c.files.tree later.files.tells has
 
 pub keeps_then : (dest : Dest) (job : Job) (a b c : LaneTold) → KeepsBlobs dest job a b → KeepsBlobs dest job b c → KeepsBlobs dest job a c
 keeps_then dest job a b c r s = λ other first apart has. s other first apart (r other first apart has)

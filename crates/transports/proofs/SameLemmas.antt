@@ -23,7 +23,7 @@ use Rattle.transports.specs.declared.blob.Upload.{Upload}
 use Rattle.transports.specs.Courses.{lane_course}
 use Rattle.transports.specs.StepEnds.{FailsFreely, FailsBy}
 use Rattle.transports.specs.Given.{SameIn, Spares}
-use Rattle.transports.specs.Has.{IsUntouched, OnlyAtDest, KeepsBlobs, KeepsAllBlobs, RemovesInOrder}
+use Rattle.transports.specs.Has.{IsUntouched, OnlyAtDest, KeepsBlobs, KeepsAllBlobs, RemovesInOrder, TakesLate}
 use Rattle.transports.specs.Writes.{Spot, AtPath, KeepsManifests, KeepsOthers, WritesNone, WritesOnly, WritesNowhere}
 use Rattle.transports.specs.Fair.{IsFair, IsFairOn, IsWork, Works, AllWork}
 use Rattle.transports.specs.Uploads.{Holds, TookFront, TookSome, OnlyPart, SamePart, IsLeft}
@@ -109,3 +109,7 @@ all_work_same dest lanes = each_self (λ place a b. Works dest a b) (λ place a.
 pub nowhere_same : (lanes : List LaneTold) → WritesNowhere lanes lanes
 unfolding WritesNowhere
 nowhere_same lanes = each_self (λ place a b. WritesNone a b) (λ place a. none_same a) lanes
+
+pub late_same : (dest : Dest) (a : LaneTold) → TakesLate dest a a
+unfolding TakesLate
+late_same dest a = inl (untouched_same a)

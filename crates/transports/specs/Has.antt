@@ -1,6 +1,6 @@
 -- What a destination has, by what one lane told before and tells now. Each relation has one case a kind of destination.
 -- Laws: what it has by two states it has by wider ones (`IsLater` before, `KeepsBlobs` behind).
-use Rattle.std.specs.Prelude.{◌≡◌, ◌≢◌, ℕ, List, Some, IfSome}
+use Rattle.std.specs.Prelude.{◌≡◌, ◌≢◌, ◌⊎◌, ℕ, List, Some, IfSome}
 use Rattle.skopeo_outside.specs.Tree.{Tree, file_at}
 use Rattle.skopeo_outside.specs.Outside.{Told}
 use Rattle.skopeo_outside.specs.LaneTold.{LaneTold}
@@ -22,7 +22,7 @@ pub record StandsIn (folder : List ℕ) (job : Job) (tree : Tree) : Type 0 where
 
 -- the destination has the job's blob: reported present or written whole between the two states, or standing at the second
 unfoldable pub HasBlob : Dest → Job → LaneTold → LaneTold → Type 0
-HasBlob (Folder path) job old new = IfSome new.files.tree (StandsIn path job)
+HasBlob (Folder path) job old new = Told (λ a b. StandsIn path job b) old.files.tree new.files.tree
 
 -- the destination itself reported the blob, so that it was not asked of the source; a folder reports none
 unfoldable pub IsReported : Dest → Job → LaneTold → LaneTold → Type 0
@@ -50,6 +50,14 @@ OnlyAtDest (Folder path) old new = Told (OnlyIn path) old.files.tree new.files.t
 -- the destination may be replaced, as it is told
 unfoldable pub MayTake : Dest → LaneTold → Type 0
 MayTake (Folder path) lane = IfSome lane.files.tree (λ t. MayReplace t path)
+
+-- and it may not, as it is told
+unfoldable pub MayNotTake : Dest → LaneTold → Type 0
+MayNotTake (Folder path) lane = IfSome lane.files.tree (λ t. MayReplace t path → ⊥)
+
+-- nothing was touched, or the destination could be replaced as it was
+unfoldable pub TakesLate : Dest → LaneTold → LaneTold → Type 0
+TakesLate dest old new = IsUntouched old new ⊎ MayTake dest old
 
 -- what is lost is lost in order: the image's manifest first, then those of instances, then all else
 unfoldable pub RemovesInOrder : Dest → LaneTold → LaneTold → Type 0

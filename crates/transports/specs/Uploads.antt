@@ -1,5 +1,5 @@
 -- A blob that is written at a destination and not named yet.
-use Rattle.std.specs.Prelude.{◌≡◌, ◌⊎◌, ◌++◌, ℕ, List, None, Some, true, Bool, false, take}
+use Rattle.std.specs.Prelude.{◌≡◌, ◌⊎◌, ◌++◌, ℕ, List, None, Some, IfSome, true, Bool, false, take}
 use Rattle.skopeo_outside.specs.Tree.{Tree, file_at}
 use Rattle.skopeo_outside.specs.Outside.{Told}
 use Rattle.skopeo_outside.specs.LaneTold.{LaneTold}
@@ -29,6 +29,10 @@ pub record IsPartHeld (part bytes : List ℕ) (old new : Tree) : Type 0 where
 unfoldable pub TookFront : Dest → Job → LaneTold → LaneTold → List ℕ → Type 0
 TookFront (Folder path) job old new bytes = Told (IsPartHeld (blob_part path job.digest old.number) bytes) old.files.tree new.files.tree
 
+-- and they stand there now
+unfoldable pub HeldAt : Dest → Job → LaneTold → List ℕ → Type 0
+HeldAt (Folder path) job now bytes = IfSome now.files.tree (λ t. file_at t (blob_part path job.digest now.number) ≡ Some bytes)
+
 -- nothing but the lane's part of the job's blob was touched
 unfoldable pub OnlyPart : Dest → Job → LaneTold → LaneTold → Type 0
 OnlyPart (Folder path) job old new =
@@ -47,6 +51,7 @@ SamePart (Folder path) job old new =
 pub record Holds (dest : Dest) (job : Job) (u : Upload) (old new : LaneTold) (bytes : List ℕ) : Type 0 where
   pub of_job : IsUploadOf dest job old.number u
   pub took : TookFront dest job old new bytes
+  pub held : HeldAt dest job new bytes
 
 -- the upload holds the whole blob
 pub record HoldsWhole (dest : Dest) (job : Job) (u : Upload) (now : LaneTold) : Type 0 where

@@ -8,7 +8,7 @@ ghost use Rattle.transports.specs.Places.{dest_at};
 ghost use Rattle.transports.specs.Courses.{lane_course};
 ghost use Rattle.transports.specs.StepEnds.{taking, putting, FailsFreely};
 ghost use Rattle.transports.specs.Fair.{Works, IsFairOn};
-ghost use Rattle.transports.specs.Has.{HasBlob, IsReported, KeepsBlobs, OnlyAtDest, RemovesInOrder, KeepsAllBlobs};
+ghost use Rattle.transports.specs.Has.{HasBlob, IsReported, KeepsBlobs, OnlyAtDest, RemovesInOrder, KeepsAllBlobs, TakesLate};
 ghost use Rattle.transports.specs.Named.{IsPrepared, AreSigned, IsNamed, IsAlone, AddsOnly};
 ghost use Rattle.transports.specs.Uploads.{Holds, HoldsWhole, TookSome, OnlyPart, LeavesNoPart};
 ghost use Rattle.transports.specs.Writes.{WritesNone, WritesOnly, spot_of};
@@ -39,7 +39,7 @@ impl Dest {
     }
 
     /// Empties what may be replaced, its manifests first, and makes the destination.
-    #[tactic(auto, using(crate::proofs::SameLemmas::ends_at_once, crate::proofs::SameLemmas::works_same, crate::proofs::SameLemmas::order_same))]
+    #[tactic(auto, using(crate::proofs::SameLemmas::ends_at_once, crate::proofs::SameLemmas::works_same, crate::proofs::SameLemmas::order_same, crate::proofs::SameLemmas::late_same))]
     pub fn prepare<W: Wire, F: Files>(
         &self,
         alloc: Global,
@@ -49,6 +49,7 @@ impl Dest {
         ensures ends { Ends lane_course (taking self.now) lane.old lane.new result }
         ensures prepared { OnOk result (IsPrepared self.now lane.old lane.new) }
         ensures works { Works self.now lane.old lane.new }
+        ensures late { TakesLate self.now lane.old lane.new }
         ensures order { OnErr result (RemovesInOrder self.now lane.old lane.new) }
     {
         // to be written
@@ -173,8 +174,8 @@ impl Dest {
         ensures ends { Ends lane_course (putting self.now) lane.old lane.new result }
         ensures signed { let digest = option_map (λ d. d.now) part.entry in
             OnOk result (AreSigned self.now digest signatures.now lane.old lane.new) }
-        ensures alone { (jobs : List Job) → IsAlone self.now jobs [] lane.old
-            → OnOk result (part.entry ≡ None → IsAlone self.now jobs signatures.now lane.new) }
+        ensures alone { (jobs : List Job) (entry : LaneTold) → IsAlone self.now jobs [] entry lane.old
+            → OnOk result (part.entry ≡ None → IsAlone self.now jobs signatures.now entry lane.new) }
         ensures blobs { KeepsAllBlobs self.now lane.old lane.new }
         ensures works { Works self.now lane.old lane.new }
     {
@@ -199,8 +200,8 @@ impl Dest {
         ensures signed { let digest = option_map (λ d. d.now) part.entry in
             (signatures : List (List ℕ)) (entry : LaneTold) → AreSigned self.now digest signatures entry lane.old
             → AreSigned self.now digest signatures entry lane.new }
-        ensures alone { (jobs : List Job) (signatures : List (List ℕ)) → IsAlone self.now jobs signatures lane.old
-            → OnOk result (part.entry ≡ None → IsAlone self.now jobs signatures lane.new) }
+        ensures alone { (jobs : List Job) (signatures : List (List ℕ)) (entry : LaneTold) → IsAlone self.now jobs signatures entry lane.old
+            → OnOk result (part.entry ≡ None → IsAlone self.now jobs signatures entry lane.new) }
         ensures blobs { KeepsAllBlobs self.now lane.old lane.new }
         ensures writes { let digest = option_map (λ d. d.now) part.entry in
             WritesOnly (spot_of self.now digest) bytes.now lane.old lane.new }

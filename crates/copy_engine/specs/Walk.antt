@@ -16,7 +16,7 @@ use Rattle.transports.specs.Courses.{lane_course}
 use Rattle.transports.specs.StepEnds.{taking, putting}
 use Rattle.admission.specs.Walk.{admission}
 use Rattle.copy_jobs.specs.Secured.{JobsEnd}
-use Rattle.image_copy.specs.Report.{copied_of}
+use Rattle.copy_engine.specs.Report.{copied_of}
 
 -- that a step went well, without what it answered
 abbrev pub forget : {A : Type 0} → Result A Refusal → Result ⊤ Refusal

@@ -16,9 +16,9 @@ use Rattle.transports.specs.Writes.{Spot, IsWrite, spot_of}
 use Rattle.transports.proofs.SameLemmas.{untouched_same, order_same, none_same, only_same, fair_same, writes_same, nowhere_same}
 use Rattle.transports.proofs.WorkLemmas.{none_written}
 use Rattle.copy_jobs.specs.Secured.{AreSecured}
-use Rattle.image_copy.specs.Headline.{IsCopied, ImageHeadline}
-use Rattle.image_copy.specs.Stops.{Leaves, IsGivenUp}
-use Rattle.image_copy.specs.Ready.{ReadyImage, IsReady, TakesLate, LeavesWritten, AllWritten}
+use Rattle.copy_engine.specs.Headline.{IsCopied, ImageHeadline}
+use Rattle.copy_engine.specs.Stops.{Leaves, IsGivenUp}
+use Rattle.copy_engine.specs.Ready.{ReadyImage, IsReady, TakesLate, LeavesWritten, AllWritten}
 
 pub memory_at_once : {A : Type 0} (step : Step Seen Refusal A) (a : Seen) → Ends call_course step a a (Err refusal.Memory)
 unfolding Ends

@@ -11,7 +11,7 @@ use Rattle.transports.specs.Has.{IsUntouched, OnlyAtDest, MayTake, RemovesInOrde
 use Rattle.transports.specs.Fair.{IsFairOn}
 use Rattle.transports.specs.Writes.{WritesNowhere}
 use Rattle.admission.specs.Admission.{Admission}
-use Rattle.image_copy.specs.Headline.{IsOfPlan}
+use Rattle.copy_engine.specs.Headline.{IsOfPlan}
 
 -- what touched a destination: the source was admitted in this call, the destination could be replaced as it was at first;
 -- nothing else was touched on any lane, and each path in it is fair
