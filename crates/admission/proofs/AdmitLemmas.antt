@@ -1,5 +1,6 @@
 -- What comes of an image that was judged.
-use Rattle.std.proofs.Common.{◌≡◌, List, ℕ, Bool, true, false, ◌-◌, ◌^◌, ◌<◌, Result, Ok, Err, ⊤, length, refl, sym, ap, subst, ◌∙◌}
+use Rattle.std.proofs.Common.{◌≡◌, List, ℕ, Bool, true, false, ◌-◌, ◌^◌, ◌<◌, Result, Ok, Err, length, refl, sym, ap, subst, ◌∙◌}
+use Rattle.std.specs.Prelude.{⊤}
 use Rattle.skopeo_outside.specs.Steps.{Says, SaysBy}
 use Rattle.skopeo_outside.specs.declared.words.Fetched.{Fetched}
 use Rattle.json_tree.specs.Tree.{tree}
@@ -44,9 +45,10 @@ memory_says wanted = λ a. tt
 pub is_sound : (policy : PolicyLists) (place : Place) (manifest : List ℕ) (kind : Kind) (image : Image) (signatures : List (List ℕ)) (jobs : List Job) (done : ⊤) → Says lane_course (judged_by (chosen policy place)) (Ok done) → jobs ≡ blobs image → image_of kind (tree manifest) ≡ Ok image → length (descriptors image) < 2 ^ 32 - 16 → IsSound (record { policy = policy; place = place; manifest = manifest; kind = kind; image = image; jobs = jobs; signatures = signatures })
 unfolding Says
 is_sound policy place manifest kind image signatures jobs done said same is few = (
-    record {
-      gate = judged_holds _ (chosen policy place).scope 1 (chosen policy place).list done said;
-      is_image = is;
-      jobs_are = same;
-    },
-    record { are = are_jobs image jobs same; few = few_jobs image jobs (2 ^ 32 - 16) same few })
+  record {
+    gate = judged_holds (record { policy = policy; place = place; manifest = manifest; kind = kind; image = image; jobs = jobs; signatures = signatures }) (chosen policy place).scope 1 (chosen policy place).list done said;
+    is_image = is;
+    jobs_are = same;
+  },
+  record { are = are_jobs image jobs same; few = few_jobs image jobs (2 ^ 32 - 16) same few },
+)

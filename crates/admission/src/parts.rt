@@ -17,7 +17,11 @@ use transports::{Part, Refusal};
 pub(crate) fn require_kind(alloc: Global, fetched: &Fetched) -> Result<Kind, Refusal>
     ensures says { Says lane_course (kind_in fetched.now) result }
 {
-    match kind_of(alloc, fetched.bytes.as_slice(), fetched.content_type.as_str()) {
+    match kind_of(
+        alloc,
+        fetched.bytes.as_slice(),
+        fetched.content_type.as_str(),
+    ) {
         Ok(Kind::V2s2) => Ok(Kind::V2s2),
         Ok(Kind::V2s2List) => Err(Refusal::NotBuilt(Part::Manifest)),
         Ok(Kind::Oci) => Err(Refusal::NotBuilt(Part::Manifest)),
