@@ -2,3 +2,4 @@ pub mod FreshLemmas
 pub mod LentLemmas
 pub mod StateLemmas
 pub mod SecureLemmas
+pub mod RunLemmas
