@@ -152,6 +152,11 @@ fn leaves_a_part_where_a_piece_is_cut_off(rt: HostRuntime) -> Result<(), Fail> {
     Ok(())
 }
 
+/// Whether the files of an instance have its digits before their names.
+fn are_named(shelf: &Shelf) -> bool {
+    shelf.get(SIGNED) == Some(b"one".as_slice()) && shelf.get(INSTANCE) == Some(b"{}".as_slice())
+}
+
 /// Puts signatures and a manifest of an instance, and reads the signatures.
 fn put_instance(
     alloc: Global,
@@ -165,15 +170,13 @@ fn put_instance(
     Ok(signatures.len())
 }
 
-/// The files of an instance have its digits before their names.
 #[test]
 fn names_the_files_of_an_instance(rt: HostRuntime) -> Result<(), Fail> {
     let digest = read_digest(ABC).ok_or("no digest")?;
     let mut files = failing(rt.alloc(), 0)?;
     let count = put_instance(rt.alloc(), &mut files, &digest).ok();
     assert_eq!(rt; count, Some(2));
-    assert_eq!(rt; files.shelf.get(SIGNED), Some(b"one".as_slice()));
-    assert_eq!(rt; files.shelf.get(INSTANCE), Some(b"{}".as_slice()));
+    assert!(rt; are_named(&files.shelf));
     Ok(())
 }
 
