@@ -93,11 +93,3 @@ pub fn remove_at<R: Disk>(rt: &R, path: &str) -> io::Result<()> {
     found(fs::remove_file(rt, path))?;
     Ok(())
 }
-
-/// Moves a file, or a link to one.
-pub fn rename_to<R: Disk>(rt: &R, from: &str, to: &str) -> io::Result<()> {
-    if size_of(rt, from)?.is_none() {
-        return Ok(());
-    }
-    fs::rename(rt, from, to)
-}

@@ -3,7 +3,7 @@ ghost use Rattle.std.specs.Prelude.{◌≡◌, ◌≤◌, ◌<◌, ◌↔◌, �
 ghost use Rattle.skopeo_outside.specs.Outside.{HasCause, Rose};
 ghost use Rattle.real_files.specs.Counted.{one_more};
 
-use crate::calls::{found, list_of, remove_at, rename_to, size_of};
+use crate::calls::{found, list_of, remove_at, size_of};
 use crate::disk::Disk;
 use crate::known::Known;
 use crate::note::{Call, Note};
@@ -21,6 +21,8 @@ pub struct RealFiles<'r, R: Disk> {
     rt: &'r R,
     source: Option<Source<R::File>>,
     part: Option<Part<R::File>>,
+    /// The path that `size` last found a file at, and empty once it may be none.
+    sized: String,
     known: Known,
     faults: u64,
     note: Option<Note>,
@@ -47,6 +49,7 @@ impl<'r, R: Disk> RealFiles<'r, R> {
             rt,
             source: None,
             part: None,
+            sized: String::new(rt.alloc()),
             known: Known::new(rt.alloc()),
             faults: 0,
             note: None,
@@ -134,21 +137,54 @@ impl<'r, R: Disk> RealFiles<'r, R> {
         Ok(())
     }
 
+    /// Forgets what is open to be read at a path whose file will change, and what was told of its size.
+    fn forget(&mut self, path: &str)
+        ensures { self.new ≡ self.old }
+    {
+        if self.sized.as_str() == path {
+            self.sized.clear();
+        }
+        if self.reads(path) {
+            self.source = None;
+        }
+    }
+
     /// Closes what is open at a path whose file will change.
     fn let_go(&mut self, path: &str) -> Result<(), Stop>
         ensures calm { OnOk result (self.new ≡ self.old) }
         ensures cause { HasCause self.old self.new result }
     {
-        if self.reads(path) {
-            self.source = None;
-        }
+        self.forget(path);
         self.close_at(path)
+    }
+
+    /// Whether a file stands at the path, which is not asked again where `size` has just told it.
+    fn is_file(&mut self, path: &str) -> io::Result<bool>
+        ensures { self.new ≡ self.old }
+    {
+        if self.sized.as_str() == path {
+            self.sized.clear();
+            return Ok(true);
+        }
+        Ok(size_of(self.rt, path)?.is_some())
+    }
+
+    /// What `size` answers, and the path is kept where there is a file.
+    fn size_file(&mut self, path: &str) -> io::Result<Option<u64>>
+        ensures { self.new ≡ self.old }
+    {
+        self.sized.clear();
+        let size = size_of(self.rt, path)?;
+        if size.is_some() {
+            self.sized.push_str(path)?;
+        }
+        Ok(size)
     }
 
     fn open_source(&mut self, path: &str) -> io::Result<Option<Source<R::File>>>
         ensures { self.new ≡ self.old }
     {
-        if size_of(self.rt, path)?.is_none() {
+        if !self.is_file(path)? {
             return Ok(None);
         }
         let Some(file) = found(fs::open(self.rt, path))? else {
@@ -219,12 +255,16 @@ impl<'r, R: Disk> RealFiles<'r, R> {
         Ok(())
     }
 
-    fn rename_file(&mut self, from: &str, to: &str) -> io::Result<()>
+    /// Moves a file, or a link to one. The part that was open is a file.
+    fn rename_file(&mut self, from: &str, to: &str, is_part: bool) -> io::Result<()>
         ensures { self.new ≡ self.old }
     {
         self.known.check_change(self.rt, from)?;
         self.known.check_change(self.rt, to)?;
-        rename_to(self.rt, from, to)
+        if !is_part && size_of(self.rt, from)?.is_none() {
+            return Ok(());
+        }
+        fs::rename(self.rt, from, to)
     }
 
     fn remove_file(&mut self, path: &str) -> io::Result<()>
@@ -242,7 +282,7 @@ impl<'r, R: Disk> Files for RealFiles<'r, R> {
 
     fn size(&mut self, path: &str) -> Result<Option<u64>, Stop> {
         self.close_at(path)?;
-        let answer = size_of(self.rt, path);
+        let answer = self.size_file(path);
         self.answer(Call::Size, path, answer)
     }
 
@@ -259,6 +299,7 @@ impl<'r, R: Disk> Files for RealFiles<'r, R> {
     }
 
     fn make_dir(&mut self, path: &str) -> Result<(), Stop> {
+        self.sized.clear();
         let answer = fs::create_dir_all(self.rt, path);
         self.answer(Call::MakeDir, path, answer)
     }
@@ -271,9 +312,7 @@ impl<'r, R: Disk> Files for RealFiles<'r, R> {
     }
 
     fn append(&mut self, path: &str, bytes: &[u8]) -> Result<(), Stop> {
-        if self.reads(path) {
-            self.source = None;
-        }
+        self.forget(path);
         if !self.writes(path) {
             self.close_part()?;
         }
@@ -282,9 +321,10 @@ impl<'r, R: Disk> Files for RealFiles<'r, R> {
     }
 
     fn rename(&mut self, from: &str, to: &str) -> Result<(), Stop> {
+        let is_part = self.writes(from);
         self.let_go(from)?;
         self.let_go(to)?;
-        let answer = self.rename_file(from, to);
+        let answer = self.rename_file(from, to, is_part);
         self.answer(Call::Rename, to, answer)
     }
 
