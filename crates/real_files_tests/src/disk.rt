@@ -1,13 +1,13 @@
 // A disk whose every second read and write is interrupted, and whose others move one byte.
 use real_files::Disk;
 use std::alloc::Global;
-use std::fs::{Metadata, OpenFile, OpenOptions};
-use std::io::{Empty, ErrorKind, Eprint, Read, Seek, SeekFrom, Write};
 use std::fmt::Display;
+use std::fs::{Metadata, OpenFile, OpenOptions};
+use std::io;
+use std::io::{Empty, Eprint, ErrorKind, Read, Seek, SeekFrom, Write};
 use std::rt::{Clock, Files};
 use std::sync::atomic::{AtomicU64, Ordering};
 use std::time::Duration;
-use std::io;
 
 /// What was asked of the disk so far, and how many bytes it still takes.
 #[derive(Drop)]
