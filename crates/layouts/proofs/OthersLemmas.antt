@@ -1,5 +1,5 @@
 -- A folder without folders inside has entries other than the part of its version exactly where something else stands below it.
-use Rattle.std.proofs.Common.{◌≡◌, ◌∙◌, ◌++◌, ◌<◌, List, ℕ, Bool, true, false, not, codes, drop, length, get_or, Contains, refl, sym, ap, subst}
+use Rattle.std.proofs.Common.{◌≡◌, ◌∙◌, ◌++◌, List, ℕ, Bool, true, false, not, codes, drop, length, get_or, Contains, refl, sym, ap, subst}
 use Rattle.std.specs.List.{Any}
 use Rattle.std.specs.Str.{bytes_eq}
 use Rattle.std.specs.FinMap.{keys}
