@@ -1,5 +1,5 @@
 -- What a destination has, by what one lane told before and tells now. Each relation has one case a kind of destination.
--- Laws: what it has by two states it has by wider ones (`IsLater` before, `KeepsBlobs` behind).
+-- Laws: what it has by two states it has by wider ones (`TellsStill` before, `KeepsBlobs` behind).
 use Rattle.std.specs.Prelude.{◌≡◌, ◌≢◌, ℕ, List, Some, IfSome}
 use Rattle.skopeo_outside.specs.Tree.{Tree, file_at}
 use Rattle.skopeo_outside.specs.Outside.{Told}
@@ -20,9 +20,13 @@ pub record StandsIn (folder : List ℕ) (job : Job) (tree : Tree) : Type 0 where
   pub there : file_at tree (blob_path folder job.digest) ≡ Some bytes
   pub whole : IsWhole job bytes
 
+-- what the destination told it tells still
+unfoldable pub TellsStill : Dest → LaneTold → LaneTold → Type 0
+TellsStill (Folder path) old new = Told (λ a b. Unit {0}) old.files.tree new.files.tree
+
 -- the destination has the job's blob: reported present or written whole between the two states, or standing at the second
 unfoldable pub HasBlob : Dest → Job → LaneTold → LaneTold → Type 0
-HasBlob (Folder path) job old new = IfSome new.files.tree (StandsIn path job)
+HasBlob (Folder path) job old new = Told (λ a b. StandsIn path job b) old.files.tree new.files.tree
 
 -- the destination itself reported the blob, so that it was not asked of the source; a folder reports none
 unfoldable pub IsReported : Dest → Job → LaneTold → LaneTold → Type 0
@@ -50,6 +54,10 @@ OnlyAtDest (Folder path) old new = Told (OnlyIn path) old.files.tree new.files.t
 -- the destination may be replaced, as it is told
 unfoldable pub MayTake : Dest → LaneTold → Type 0
 MayTake (Folder path) lane = IfSome lane.files.tree (λ t. MayReplace t path)
+
+-- the destination may not be replaced, as it is told
+unfoldable pub MustLeave : Dest → LaneTold → Type 0
+MustLeave (Folder path) lane = IfSome lane.files.tree (λ t. MayReplace t path → ⊥)
 
 -- what is lost is lost in order: the image's manifest first, then those of instances, then all else
 unfoldable pub RemovesInOrder : Dest → LaneTold → LaneTold → Type 0

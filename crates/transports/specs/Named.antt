@@ -1,5 +1,5 @@
 -- What stands at a destination that was made ready, and at one at which an image was named.
-use Rattle.std.specs.Prelude.{◌≡◌, ◌≢◌, ◌⊎◌, ◌<◌, ◌+◌, ℕ, List, Option, Some, None, IfSome, Contains, length, slice_get, []}
+use Rattle.std.specs.Prelude.{◌≡◌, ◌≢◌, ◌⊎◌, ◌<◌, ◌+◌, ℕ, List, Option, Some, None, Contains, length, slice_get, []}
 use Rattle.skopeo_outside.specs.Tree.{Tree, file_at}
 use Rattle.skopeo_outside.specs.Folders.{joined}
 use Rattle.skopeo_outside.specs.Outside.{Told}
@@ -18,14 +18,18 @@ use Rattle.transports.specs.declared.dest.Dest.TheVariants.{Folder}
 unfoldable pub IsPrepared : Dest → LaneTold → LaneTold → Type 0
 IsPrepared (Folder path) old new = Told (IsReady path) old.files.tree new.files.tree
 
+-- each signature stands in a folder, numbered from 1
+abbrev pub AreSignedIn : List ℕ → Option (List ℕ) → List (List ℕ) → Tree → Type 0
+AreSignedIn folder part signatures tree =
+    (k : ℕ) (s : List ℕ) → slice_get signatures k ≡ Some s → file_at tree (signature_at folder (prefix_of part) (k + 1)) ≡ Some s
+
 -- the signatures stand, of the image or of an instance by its digest
 unfoldable pub AreSigned : Dest → Option (List ℕ) → List (List ℕ) → LaneTold → LaneTold → Type 0
-AreSigned (Folder path) part signatures old new =
-    IfSome new.files.tree (λ t. (k : ℕ) (s : List ℕ) → slice_get signatures k ≡ Some s → file_at t (signature_at path (prefix_of part) (k + 1)) ≡ Some s)
+AreSigned (Folder path) part signatures old new = Told (λ a b. AreSignedIn path part signatures b) old.files.tree new.files.tree
 
 -- the manifest stands, of the image or of an instance by its digest
 unfoldable pub IsNamed : Dest → Option (List ℕ) → List ℕ → LaneTold → LaneTold → Type 0
-IsNamed (Folder path) part bytes old new = IfSome new.files.tree (λ t. file_at t (joined path (manifest_name part)) ≡ Some bytes)
+IsNamed (Folder path) part bytes old new = Told (λ a b. file_at b (joined path (manifest_name part)) ≡ Some bytes) old.files.tree new.files.tree
 
 -- a path in the folder that is none of the image's
 pub record IsOther (folder : List ℕ) (jobs : List Job) (signatures : List (List ℕ)) (path : List ℕ) : Type 0 where
@@ -42,8 +46,8 @@ pub record HoldsOnly (folder : List ℕ) (jobs : List Job) (signatures : List (L
   pub gone : (q : List ℕ) → IsOther folder jobs signatures q → file_at tree q ≡ None
 
 -- the destination holds this image and nothing else
-unfoldable pub IsAlone : Dest → List Job → List (List ℕ) → LaneTold → Type 0
-IsAlone (Folder path) jobs signatures lane = IfSome lane.files.tree (HoldsOnly path jobs signatures)
+unfoldable pub IsAlone : Dest → List Job → List (List ℕ) → LaneTold → LaneTold → Type 0
+IsAlone (Folder path) jobs signatures old new = Told (λ a b. HoldsOnly path jobs signatures b) old.files.tree new.files.tree
 
 -- the folder stands still, and each file in it is as it was or gone, but for blobs of such digests
 pub record AddsIn (folder : List ℕ) (Is : List ℕ → Type 0) (old new : Tree) : Type 0 where

@@ -1,5 +1,5 @@
 -- A blob that is written at a destination and not named yet.
-use Rattle.std.specs.Prelude.{◌≡◌, ◌⊎◌, ◌++◌, ℕ, List, None, Some, true, Bool, false, take}
+use Rattle.std.specs.Prelude.{◌≡◌, ◌⊎◌, ◌++◌, ℕ, List, None, Some, IfSome, true, Bool, false, take}
 use Rattle.skopeo_outside.specs.Tree.{Tree, file_at}
 use Rattle.skopeo_outside.specs.Outside.{Told}
 use Rattle.skopeo_outside.specs.LaneTold.{LaneTold}
@@ -16,9 +16,9 @@ use Rattle.transports.specs.declared.dest.Dest.TheVariants.{Folder}
 use Rattle.transports.specs.Blobs.{IsWhole}
 use Rattle.transports.specs.Given.{GaveFront}
 
--- an upload that is this job's at this destination, by the lane of this number
-unfoldable pub IsUploadOf : Dest → Job → ℕ → Upload → Type 0
-IsUploadOf (Folder path) job lane (upload.File at) = at ≡ blob_part path job.digest lane
+-- an upload that is this job's at this destination. (Place for where a registry wants the rest.)
+unfoldable pub IsUploadOf : Dest → Job → Upload → Type 0
+IsUploadOf (Folder path) job upload.File = Unit {0}
 
 -- the part of a blob holds these bytes, and all other files are as they were
 pub record IsPartHeld (part bytes : List ℕ) (old new : Tree) : Type 0 where
@@ -43,10 +43,16 @@ unfoldable pub SamePart : Dest → Job → LaneTold → LaneTold → Type 0
 SamePart (Folder path) job old new =
     Told (λ a b. let part = blob_part path job.digest old.number in (file_at b part ≡ file_at a part) ⊎ (file_at b part ≡ None)) old.files.tree new.files.tree
 
+-- what is told now shows that the lane's part of the job's blob holds these bytes
+unfoldable pub ShowsPart : Dest → Job → LaneTold → List ℕ → Type 0
+ShowsPart (Folder path) job now bytes = IfSome now.files.tree (λ t. file_at t (blob_part path job.digest now.number) ≡ Some bytes)
+
 -- the upload holds these bytes of the job's blob
 pub record Holds (dest : Dest) (job : Job) (u : Upload) (old new : LaneTold) (bytes : List ℕ) : Type 0 where
-  pub of_job : IsUploadOf dest job old.number u
+  pub of_job : IsUploadOf dest job u
   pub took : TookFront dest job old new bytes
+  pub shows : ShowsPart dest job new bytes
+  pub number : new.number ≡ old.number
 
 -- the upload holds the whole blob
 pub record HoldsWhole (dest : Dest) (job : Job) (u : Upload) (now : LaneTold) : Type 0 where

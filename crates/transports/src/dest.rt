@@ -18,14 +18,15 @@ use crate::refusal::Refusal;
 use copy_workers::Cause;
 use digest_reader::Job;
 use image_ref::{Digest, Place};
-use skopeo_outside::{Files, Lane, Many, Text, Wire};
+use layouts::DirImage;
+use skopeo_outside::{Files, Lane, Many, Wire};
 use std::alloc::Global;
 
 /// Where an image goes to, one variant a kind that is built.
 #[derive(Debug, Drop)]
 pub enum Dest {
     /// A folder of the transport `dir`.
-    Folder(Text),
+    Folder(DirImage),
 }
 
 impl Dest {
@@ -173,8 +174,8 @@ impl Dest {
         ensures ends { Ends lane_course (putting self.now) lane.old lane.new result }
         ensures signed { let digest = option_map (λ d. d.now) part.entry in
             OnOk result (AreSigned self.now digest signatures.now lane.old lane.new) }
-        ensures alone { (jobs : List Job) → IsAlone self.now jobs [] lane.old
-            → OnOk result (part.entry ≡ None → IsAlone self.now jobs signatures.now lane.new) }
+        ensures alone { (entry : LaneTold) (jobs : List Job) → IsAlone self.now jobs [] entry lane.old
+            → OnOk result (part.entry ≡ None → IsAlone self.now jobs signatures.now entry lane.new) }
         ensures blobs { KeepsAllBlobs self.now lane.old lane.new }
         ensures works { Works self.now lane.old lane.new }
     {
@@ -199,8 +200,8 @@ impl Dest {
         ensures signed { let digest = option_map (λ d. d.now) part.entry in
             (signatures : List (List ℕ)) (entry : LaneTold) → AreSigned self.now digest signatures entry lane.old
             → AreSigned self.now digest signatures entry lane.new }
-        ensures alone { (jobs : List Job) (signatures : List (List ℕ)) → IsAlone self.now jobs signatures lane.old
-            → OnOk result (part.entry ≡ None → IsAlone self.now jobs signatures lane.new) }
+        ensures alone { (entry : LaneTold) (jobs : List Job) (signatures : List (List ℕ)) → IsAlone self.now jobs signatures entry lane.old
+            → OnOk result (part.entry ≡ None → IsAlone self.now jobs signatures entry lane.new) }
         ensures blobs { KeepsAllBlobs self.now lane.old lane.new }
         ensures writes { let digest = option_map (λ d. d.now) part.entry in
             WritesOnly (spot_of self.now digest) bytes.now lane.old lane.new }
