@@ -4,3 +4,5 @@ pub mod GivenLemmas
 pub mod HasLemmas
 pub mod FolderLemmas
 pub mod BlobLemmas
+pub mod DigestLemmas
+pub mod UploadLemmas

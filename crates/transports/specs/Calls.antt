@@ -1,5 +1,7 @@
 -- Which refusals and causes the faults of files and of folders are.
-use Rattle.std.specs.Prelude.{◌≡◌, ◌⊎◌, ℕ, List}
+use Rattle.std.specs.Prelude.{◌≡◌, ◌⊎◌, ◌≤◌, ℕ, List}
+use Rattle.std.specs.Option.{option_map}
+use Rattle.skopeo_outside.specs.Tree.{Tree}
 use Rattle.skopeo_outside.specs.LaneTold.{LaneTold}
 use Rattle.skopeo_outside.specs.declared.stop.Stop.{Stop}
 use Rattle.skopeo_outside.specs.declared.stop.Stop.TheVariants as stop
@@ -41,3 +43,9 @@ pub record OnFiles (old new : LaneTold) : Type 0 where
   pub from : new.from ≡ old.from
   pub to : new.to ≡ old.to
   pub number : new.number ≡ old.number
+
+-- a lane's files did this to their tree, and nothing else went on
+pub record FilesDid (change : Tree → Tree) (old new : LaneTold) : Type 0 where
+  pub on : OnFiles old new
+  pub tree : new.files.tree ≡ option_map change old.files.tree
+  pub later : old.files.faults ≤ new.files.faults

@@ -3,6 +3,7 @@
 
 mod blob;
 mod dest;
+mod folder_dest;
 mod folder_source;
 mod plan;
 mod refusal;
