@@ -1,5 +1,5 @@
 -- What SHA-256 gives are 32 bytes, and so has a name of its own in a folder.
-use Rattle.std.proofs.Common.{◌≡◌, ◌≢◌, ◌<◌, ◌%◌, ◌/◌, ◌++◌, ℕ, zero, suc, List, [], ◌∷◌, codes, length, Option, Some, refl, sym, ap, ◌∙◌, arith}
+use Rattle.std.proofs.Common.{◌≡◌, ◌≢◌, ◌<◌, ◌%◌, ◌++◌, ℕ, zero, suc, List, [], ◌∷◌, codes, Some, sym, ap, ◌∙◌, arith}
 use Rattle.std.specs.Prelude.{slice_index}
 use Rattle.std.specs.Int.{to_be_bytes, bytes_high_first, w32}
 use Rattle.sha2.specs.Sha256.{sha256, digest_bytes}

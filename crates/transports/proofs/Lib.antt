@@ -6,3 +6,6 @@ pub mod FolderLemmas
 pub mod BlobLemmas
 pub mod DigestLemmas
 pub mod UploadLemmas
+pub mod ReadyLemmas
+pub mod BesideLemmas
+pub mod ImageLemmas

@@ -1,6 +1,6 @@
 -- A job's blob in a folder: begun, filled, named or given up.
-use Rattle.std.proofs.Common.{◌≡◌, ◌≢◌, ◌⊎◌, ◌∙◌, ◌++◌, ◌<◌, ◌≤◌, ◌^◌, ℕ, List, [], ◌∷◌, Option, Some, None, IfSome, Contains, length, take, inl, inr, refl, sym, ap, subst, arith}
-use Rattle.std.specs.Option.{option_map, option_map_or, unwrap_or}
+use Rattle.std.proofs.Common.{◌≡◌, ◌≢◌, ◌⊎◌, ◌∙◌, ◌++◌, ◌<◌, ◌≤◌, ◌^◌, ℕ, List, [], ◌∷◌, Option, Some, None, IfSome, Contains, take, inl, inr, refl, sym, ap, subst}
+use Rattle.std.specs.Option.{option_map, unwrap_or}
 use Rattle.skopeo_outside.specs.Tree.{Tree, file_at, with_file, without_file, with_more, with_moved, HasPartOf}
 use Rattle.skopeo_outside.specs.Outside.{Told}
 use Rattle.skopeo_outside.specs.LaneTold.{LaneTold, IsLater}
@@ -8,7 +8,6 @@ use Rattle.skopeo_outside.specs.LaneLaws.{told_same}
 use Rattle.skopeo_outside.proofs.Trees.{path_cases, file_at-with_file, file_at-with_file_other, file_at-without_file, file_at-without_file_other}
 use Rattle.digest_reader.specs.declared.job.Job.{Job}
 use Rattle.image_ref.specs.Digest.{IsDigest}
-use Rattle.digest_reader.specs.Digests.{digest}
 use Rattle.layouts.specs.Paths.{IsIn, IsManifestPath, blob_path, blob_part, version_path}
 use Rattle.layouts.specs.Trees.{OnlyAt, OnlyIn, IsPut, SameOrGone}
 use Rattle.layouts.proofs.NameLemmas.{blob_in, part_in, blob_not_manifest, part_not_manifest, blob_not_part, blob_not_version, part_not_version}
@@ -21,11 +20,11 @@ use Rattle.transports.specs.declared.blob.Upload.TheVariants as upload
 use Rattle.transports.specs.Blobs.{IsWhole}
 use Rattle.transports.specs.Has.{StandsIn, HasBlob, KeepsBlobs, IsUntouched, OnlyAtDest}
 use Rattle.transports.specs.Writes.{KeepsManifests, WritesNone}
-use Rattle.transports.specs.Fair.{IsFair, IsFairOn, IsWork, Works}
+use Rattle.transports.specs.Fair.{IsFair, IsFairOn, Works}
 use Rattle.transports.specs.Named.{AddsIn, AddsOnly}
 use Rattle.transports.specs.Uploads.{IsUploadOf, IsPartHeld, TookFront, OnlyPart, LeavesNoPart, ShowsPart, Holds, HoldsWhole, TookSome}
 use Rattle.transports.specs.Calls.{OnFiles, FilesDid}
-use Rattle.transports.proofs.ToldLemmas.{step_same, step_by, told_by, now_by}
+use Rattle.transports.proofs.ToldLemmas.{step_by, told_by, now_by}
 use Rattle.transports.proofs.DigestLemmas.{is_digest, other_blob}
 use Rattle.transports.proofs.FolderLemmas.{later_by}
 

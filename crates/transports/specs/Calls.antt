@@ -38,6 +38,12 @@ abbrev pub IsRefused : List ℕ → ℕ → LayoutFault → Refusal → Type 0
 IsRefused folder count layout.Files r = r ≡ refusal.Files count
 IsRefused folder count given r = (r ≡ refusal.Memory) ⊎ (r ≡ refusal_of folder given)
 
+-- the refusal of a destination folder that a fault of it is, or want of memory in its place
+abbrev pub IsRefusedThere : List ℕ → ℕ → LayoutFault → Refusal → Type 0
+IsRefusedThere folder count layout.Files r = r ≡ refusal.Files count
+IsRefusedThere folder count layout.Memory r = r ≡ refusal.Memory
+IsRefusedThere folder count _ r = (r ≡ refusal.Memory) ⊎ (r ≡ refusal.NotAnImageDir folder)
+
 -- of a lane the files alone took part in a call
 pub record OnFiles (old new : LaneTold) : Type 0 where
   pub from : new.from ≡ old.from

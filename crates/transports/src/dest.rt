@@ -14,8 +14,8 @@ ghost use Rattle.transports.specs.Uploads.{Holds, HoldsWhole, TookSome, OnlyPart
 ghost use Rattle.transports.specs.Writes.{WritesNone, WritesOnly, spot_of};
 
 use crate::blob::Upload;
-use crate::folder_dest;
 use crate::refusal::{Part, Refusal};
+use crate::{folder_dest, folder_image};
 use copy_workers::Cause;
 use digest_reader::Job;
 use image_ref::{Digest, Place};
@@ -44,7 +44,6 @@ impl Dest {
     }
 
     /// Empties what may be replaced, its manifests first, and makes the destination.
-    #[tactic(auto, using(crate::proofs::SameLemmas::ends_at_once, crate::proofs::SameLemmas::works_same, crate::proofs::SameLemmas::order_same))]
     pub fn prepare<W: Wire, F: Files>(
         &self,
         alloc: Global,
@@ -56,8 +55,9 @@ impl Dest {
         ensures works { Works self.now lane.old lane.new }
         ensures order { OnErr result (RemovesInOrder self.now lane.old lane.new) }
     {
-        // to be written
-        Err(Refusal::Memory)
+        match self {
+            Dest::Folder(folder) => folder_image::prepare(alloc, lane, folder),
+        }
     }
 
     /// Whether the destination reports a job's blob. A folder reports none.
@@ -167,7 +167,6 @@ impl Dest {
     }
 
     /// Writes the signatures of the image, or of its instance with this digest.
-    #[tactic(auto, using(crate::proofs::SameLemmas::ends_at_once, crate::proofs::SameLemmas::works_same))]
     pub fn put_signatures<W: Wire, F: Files>(
         &self,
         alloc: Global,
@@ -184,12 +183,14 @@ impl Dest {
         ensures blobs { KeepsAllBlobs self.now lane.old lane.new }
         ensures works { Works self.now lane.old lane.new }
     {
-        // to be written
-        Err(Refusal::Memory)
+        match self {
+            Dest::Folder(folder) => folder_image::put_signatures(
+                alloc, lane, folder, part, signatures,
+            ),
+        }
     }
 
     /// Writes the manifest of the image, or of its instance with this digest, by its media type.
-    #[tactic(auto, using(crate::proofs::SameLemmas::ends_at_once, crate::proofs::SameLemmas::works_same, crate::proofs::SameLemmas::only_same, crate::proofs::SameLemmas::fair_same, crate::proofs::SameLemmas::writes_same))]
     pub fn put_manifest<W: Wire, F: Files>(
         &self,
         alloc: Global,
@@ -214,7 +215,10 @@ impl Dest {
         ensures only { OnlyAtDest self.now lane.old lane.new }
         ensures fair { IsFairOn self.now lane.old.number lane.old lane.new }
     {
-        // to be written
-        Err(Refusal::Memory)
+        match self {
+            Dest::Folder(folder) => folder_image::put_manifest(
+                alloc, lane, folder, part, media, bytes,
+            ),
+        }
     }
 }

@@ -4,6 +4,7 @@
 mod blob;
 mod dest;
 mod folder_dest;
+mod folder_image;
 mod folder_source;
 mod plan;
 mod refusal;

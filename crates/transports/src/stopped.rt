@@ -1,6 +1,6 @@
 // What a stopped call of the files is.
 ghost use Rattle.std.specs.Prelude.{◌≡◌};
-ghost use Rattle.transports.specs.Calls.{by_stop, cause_by_stop, by_fault, cause_by_fault, IsRefused};
+ghost use Rattle.transports.specs.Calls.{by_stop, cause_by_stop, by_fault, cause_by_fault, IsRefused, IsRefusedThere};
 
 use crate::refusal::Refusal;
 use copy_workers::Cause;
@@ -60,5 +60,19 @@ pub(crate) fn refused(alloc: Global, folder: &str, fault: LayoutFault, faults: u
         LayoutFault::TooLarge(what, length) => Refusal::TooLarge(what, length),
         LayoutFault::Files => Refusal::Files(faults),
         _ => Refusal::Memory,
+    }
+}
+
+/// The refusal of a destination folder that a fault of it is, or want of memory.
+pub(crate) fn refused_there(alloc: Global, folder: &str, fault: LayoutFault, faults: u64) -> Refusal
+    ensures is { IsRefusedThere folder.now faults fault result }
+{
+    match fault {
+        LayoutFault::Files => Refusal::Files(faults),
+        LayoutFault::Memory => Refusal::Memory,
+        _ => match Text::copy_of(alloc, folder) {
+            Ok(path) => Refusal::NotAnImageDir(path),
+            Err(_) => Refusal::Memory,
+        },
     }
 }
