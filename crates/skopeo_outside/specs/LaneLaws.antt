@@ -3,7 +3,7 @@ use Rattle.std.proofs.Common.{◌≡◌, ◌≤◌, ◌+◌, ◌-◌, ◌^◌, �
 use Rattle.std.proofs.lemmas.Option.{slice_get-get_or, slice_get_within}
 use Rattle.skopeo_outside.specs.Wire.{Conversation}
 use Rattle.skopeo_outside.specs.Outside.{Told, Rose}
-use Rattle.skopeo_outside.specs.LaneTold.{WireTold, LaneTold, AreMore, IsLaterWire, IsLater, BlamesFiles, BlamesOne, BlamesWire}
+use Rattle.skopeo_outside.specs.LaneTold.{WireTold, FilesTold, LaneTold, AreMore, IsLaterWire, IsLaterFiles, IsLater, BlamesFiles, BlamesOne, BlamesWire}
 use Rattle.skopeo_outside.specs.Seen.{OnEach}
 
 -- relations of what was told, one behind the other
@@ -40,23 +40,38 @@ wire_then a b c r s = record {
   faults = (let x = r.faults in let y = s.faults in omega arith);
 }
 
+files_same : (a : FilesTold) → IsLaterFiles a a
+files_same a = record { tells = told_same (λ _ _. Unit {0}) (λ t. tt) a.tree; faults = omega arith }
+
+files_then : (a b c : FilesTold) → IsLaterFiles a b → IsLaterFiles b c → IsLaterFiles a c
+files_then a b c r s = record {
+  tells = told_then (λ _ _. Unit {0}) (λ _ _. Unit {0}) (λ _ _. Unit {0}) (λ x y z p q. tt) a.tree b.tree c.tree r.tells s.tells;
+  faults = (let x = r.faults in let y = s.faults in omega arith);
+}
+
 pub later_same : (a : LaneTold) → IsLater a a
-later_same a = record { from = wire_same a.from; to = wire_same a.to; files = omega arith; number = refl }
+later_same a = record { from = wire_same a.from; to = wire_same a.to; files = files_same a.files; number = refl }
 
 pub later_then : (a b c : LaneTold) → IsLater a b → IsLater b c → IsLater a c
 later_then a b c r s = record {
   from = wire_then a.from b.from c.from r.from s.from;
   to = wire_then a.to b.to c.to r.to s.to;
-  files = (let x = r.files in let y = s.files in omega arith);
+  files = files_then a.files b.files c.files r.files s.files;
   number = s.number ∙ r.number;
 }
 
+-- what is related is told
+pub told_tells : {A : Type 0} (R : A → A → Type 0) (x y : Option A) → Told R x y → Told (λ _ _. Unit {0}) x y
+told_tells R None y r = tt
+told_tells R (Some a) None r = r
+told_tells R (Some a) (Some b) r = tt
+
 -- a call that only the files take part in
-pub later_files : (a b : LaneTold) → b.from ≡ a.from → b.to ≡ a.to → b.number ≡ a.number → a.files.faults ≤ b.files.faults → IsLater a b
-later_files a b from to number le = record {
+pub later_files : (a b : LaneTold) → b.from ≡ a.from → b.to ≡ a.to → b.number ≡ a.number → IsLaterFiles a.files b.files → IsLater a b
+later_files a b from to number files = record {
   from = subst (IsLaterWire a.from) (sym from) (wire_same a.from);
   to = subst (IsLaterWire a.to) (sym to) (wire_same a.to);
-  files = le;
+  files = files;
   number = number;
 }
 
@@ -66,7 +81,7 @@ rose_earlier : (a b c : ℕ) → a ≤ b → Rose b c → Rose a c
 rose_earlier a b c le rose = omega arith
 
 pub files_earlier : (count : ℕ) (a b c : LaneTold) → IsLater a b → BlamesFiles count b c → BlamesFiles count a c
-files_earlier count a b c later f = record { is = f.is; rose = rose_earlier a.files.faults b.files.faults c.files.faults later.files f.rose }
+files_earlier count a b c later f = record { is = f.is; rose = rose_earlier a.files.faults b.files.faults c.files.faults later.files.faults f.rose }
 
 one_earlier : (count : ℕ) (a b c : WireTold) → a.faults ≤ b.faults → BlamesOne count b c → BlamesOne count a c
 one_earlier count a b c le f = record { is = f.is; rose = rose_earlier a.faults b.faults c.faults le f.rose }

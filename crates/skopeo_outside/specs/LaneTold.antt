@@ -32,11 +32,16 @@ pub record IsLaterWire (old new : WireTold) : Type 0 where
   pub talks : Told AreMore old.talks new.talks
   pub faults : old.faults ≤ new.faults
 
--- a lane later: so are its wires, the files' count has not fallen, and the number is the same
+-- files later: where they told a tree they tell one still, and their count has not fallen
+pub record IsLaterFiles (old new : FilesTold) : Type 0 where
+  pub tells : Told (λ _ _. Unit {0}) old.tree new.tree
+  pub faults : old.faults ≤ new.faults
+
+-- a lane later: so are its wires and its files, and the number is the same
 pub record IsLater (old new : LaneTold) : Type 0 where
   pub from : IsLaterWire old.from new.from
   pub to : IsLaterWire old.to new.to
-  pub files : old.files.faults ≤ new.files.faults
+  pub files : IsLaterFiles old.files new.files
   pub number : new.number ≡ old.number
 
 -- a fault of the lane's files: the count is theirs at the end, and rose

@@ -4,7 +4,7 @@ use Rattle.skopeo_outside.specs.Tree.{Tree, file_at}
 use Rattle.skopeo_outside.specs.Folders.{joined}
 use Rattle.skopeo_outside.specs.Outside.{Told, HasCause}
 use Rattle.skopeo_outside.specs.LaneTold.{LaneTold, IsLater}
-use Rattle.skopeo_outside.specs.LaneLaws.{later_files, told_same}
+use Rattle.skopeo_outside.specs.LaneLaws.{later_files, told_same, told_tells}
 use Rattle.skopeo_outside.specs.Steps.{Ends, EndsBy, Says, SaysBy}
 use Rattle.skopeo_outside.specs.OnLanes.{LaneStep}
 use Rattle.skopeo_outside.specs.declared.words.Fetched.{Fetched}
@@ -31,8 +31,11 @@ use Rattle.transports.specs.Calls.{by_stop, IsRefused, OnFiles}
 
 -- ---- what stays
 
-pub later_by : (a b : LaneTold) → OnFiles a b → a.files.faults ≤ b.files.faults → IsLater a b
-later_by a b on le = later_files a b on.from on.to on.number le
+pub later_told : (R : Tree → Tree → Type 0) (a b : LaneTold) → OnFiles a b → Told R a.files.tree b.files.tree → a.files.faults ≤ b.files.faults → IsLater a b
+later_told R a b on told le = later_files a b on.from on.to on.number (record { tells = told_tells R a.files.tree b.files.tree told; faults = le })
+
+pub later_by : (a b : LaneTold) → OnFiles a b → b.files.tree ≡ a.files.tree → a.files.faults ≤ b.files.faults → IsLater a b
+later_by a b on same le = later_told (λ s t. Unit {0}) a b on (subst (λ x. Told (λ s t. Unit {0}) a.files.tree x) (sym same) (told_same (λ s t. Unit {0}) (λ t. tt) a.files.tree)) le
 
 pub untouched_by : (a b : LaneTold) → OnFiles a b → b.files.tree ≡ a.files.tree → IsUntouched a b
 untouched_by a b on same = record { files = same; to = ap (λ w. w.talks) on.to }
@@ -47,14 +50,14 @@ spares_of (Folder folder) a b same = spares_by folder a b same
 -- ---- how steps end
 
 -- a stopped call of the files ends any step
-pub files_stopped : {A B : Type 0} (step : LaneStep Refusal A) (a b : LaneTold) (s : Stop) (r : Refusal) → OnFiles a b → HasCause {T = B} a.files.faults b.files.faults (Err s) → r ≡ by_stop s b.files.faults → Ends lane_course step a b (Err r)
+pub files_stopped : {A B : Type 0} (step : LaneStep Refusal A) (a b : LaneTold) (s : Stop) (r : Refusal) → OnFiles a b → b.files.tree ≡ a.files.tree → HasCause {T = B} a.files.faults b.files.faults (Err s) → r ≡ by_stop s b.files.faults → Ends lane_course step a b (Err r)
 unfolding Ends lane_course
-files_stopped {A} step a b stop.Fault r on cause is = record {
-  later = later_by a b on cause.later;
+files_stopped {A} step a b stop.Fault r on same cause is = record {
+  later = later_by a b on same cause.later;
   ends = subst (λ e. EndsBy {A = A} (is_free e) lane_course e step a b) (sym is) (record { is = refl; rose = cause.fault refl });
 }
-files_stopped {A} step a b stop.Memory r on cause is = record {
-  later = later_by a b on cause.later;
+files_stopped {A} step a b stop.Memory r on same cause is = record {
+  later = later_by a b on same cause.later;
   ends = subst (λ e. EndsBy {A = A} (is_free e) lane_course e step a b) (sym is) tt;
 }
 
@@ -79,14 +82,14 @@ manifest_was path part file a b is = by a.files.tree is
 pub manifest_ended : (path : List ℕ) (part : Option (List ℕ)) (file : Limited) (a b : LaneTold) (r : Result Fetched Refusal) → OnFiles a b → b.files.tree ≡ a.files.tree → a.files.faults ≤ b.files.faults
     → IfSome a.files.tree (λ t. file ≡ limited (file_at t (joined path (manifest_name part)))) → Says lane_course (manifest_in path file) r → Ends lane_course (reading (ManifestEnds (Folder path) part)) a b r
 manifest_ended path part file a b r on same le is says =
-    said_ends (reading (ManifestEnds (Folder path) part)) a b (manifest_in path file) r (later_by a b on le) says (manifest_was path part file a b is, untouched_by a b on same)
+    said_ends (reading (ManifestEnds (Folder path) part)) a b (manifest_in path file) r (later_by a b on same le) says (manifest_was path part file a b is, untouched_by a b on same)
 
 -- ---- signatures
 
 pub signatures_ended : (path : List ℕ) (part : Option (List ℕ)) (a b : LaneTold) (signatures : List (List ℕ)) → OnFiles a b → b.files.tree ≡ a.files.tree → a.files.faults ≤ b.files.faults
     → IfSome a.files.tree (λ t. layout.Answers (AreSignaturesIn t path part) (Ok signatures)) → Ends lane_course (reading (SignaturesEnd (Folder path) part)) a b (Ok signatures)
 unfolding Ends lane_course SignaturesEnd
-signatures_ended path part a b signatures on same le read = record { later = later_by a b on le; ends = (by a.files.tree read, untouched_by a b on same) }
+signatures_ended path part a b signatures on same le read = record { later = later_by a b on same le; ends = (by a.files.tree read, untouched_by a b on same) }
   where
     by : (x : Option Tree) → IfSome x (λ t. layout.Answers (AreSignaturesIn t path part) (Ok signatures)) → IfSome x (λ t. Ok signatures ≡ by_folder path (signatures_in (numbered t path (prefix_of part))))
     by None read = tt
@@ -123,7 +126,7 @@ fault_ends {A} {B} path step a b given r later cause is end = record { later = l
 pub signatures_refused : {B : Type 0} (path : List ℕ) (part : Option (List ℕ)) (a b : LaneTold) (given : LayoutFault) (r : Refusal) → OnFiles a b → b.files.tree ≡ a.files.tree → layout.LayoutCause {A = B} a.files.faults b.files.faults (Err given)
     → IfSome a.files.tree (λ t. layout.Answers (AreSignaturesIn t path part) (Err given)) → IsRefused path b.files.faults given r → Ends lane_course (reading (SignaturesEnd (Folder path) part)) a b (Err r)
 unfolding SignaturesEnd
-signatures_refused path part a b given r on same cause read is = fault_ends path (reading (SignaturesEnd (Folder path) part)) a b given r (later_by a b on cause.later) cause is (λ bound. (by bound a.files.tree read, untouched_by a b on same))
+signatures_refused path part a b given r on same cause read is = fault_ends path (reading (SignaturesEnd (Folder path) part)) a b given r (later_by a b on same cause.later) cause is (λ bound. (by bound a.files.tree read, untouched_by a b on same))
   where
     by : layout.is_free given ≡ false → (x : Option Tree) → IfSome x (λ t. layout.Answers (AreSignaturesIn t path part) (Err given)) → IfSome x (λ t. Err (refusal_of path given) ≡ by_folder path (signatures_in (numbered t path (prefix_of part))))
     by bound None read = tt

@@ -9,3 +9,4 @@ pub mod UploadLemmas
 pub mod ReadyLemmas
 pub mod BesideLemmas
 pub mod ImageLemmas
+pub mod WorkLemmas

@@ -2,7 +2,7 @@
 use Rattle.std.proofs.Common.{◌≡◌, ◌≢◌, ◌⊎◌, ◌∙◌, ◌≤◌, ℕ, List, codes, true, false, Option, Some, None, Ok, Err, IfSome, inl, inr, refl, sym, ap, subst}
 use Rattle.skopeo_outside.specs.Tree.{Tree}
 use Rattle.skopeo_outside.specs.Outside.{Told}
-use Rattle.skopeo_outside.specs.LaneTold.{LaneTold}
+use Rattle.skopeo_outside.specs.LaneTold.{LaneTold, IsLater}
 use Rattle.skopeo_outside.specs.Steps.{Ends, EndsBy}
 use Rattle.skopeo_outside.proofs.Trees.{path_cases}
 use Rattle.layouts.specs.Faults as layout
@@ -20,24 +20,24 @@ use Rattle.transports.specs.declared.refusal.Refusal.TheVariants as refusal
 use Rattle.transports.specs.Refusals.{is_free}
 use Rattle.transports.specs.Courses.{lane_course}
 use Rattle.transports.specs.StepEnds.{taking, putting}
-use Rattle.transports.specs.Has.{OnlyAtDest, MayTake, MustLeave, RemovesInOrder}
+use Rattle.transports.specs.Has.{OnlyAtDest, MayTake, MayNotTake, TakesLate, RemovesInOrder}
 use Rattle.transports.specs.Writes.{KeepsManifests, WritesNone}
 use Rattle.transports.specs.Fair.{IsFair, IsFairOn, Works}
 use Rattle.transports.specs.Named.{IsPrepared}
 use Rattle.transports.specs.Calls.{by_fault, IsRefusedThere, OnFiles}
 use Rattle.transports.proofs.ToldLemmas.{told_as}
-use Rattle.transports.proofs.FolderLemmas.{later_by, untouched_by}
+use Rattle.transports.proofs.FolderLemmas.{later_told, untouched_by}
 
 -- ---- how a destination is taken
 
-pub taken : (folder : List ℕ) (a b : LaneTold) (done : Unit {0}) → OnFiles a b → a.files.faults ≤ b.files.faults → IfSome a.files.tree (λ t. layout.Answers (JudgesDestination t folder) (Ok done)) → Ends lane_course (taking (Folder folder)) a b (Ok done)
+pub taken : (folder : List ℕ) (a b : LaneTold) (done : Unit {0}) → IsLater a b → IfSome a.files.tree (λ t. layout.Answers (JudgesDestination t folder) (Ok done)) → Ends lane_course (taking (Folder folder)) a b (Ok done)
 unfolding Ends lane_course taking MayTake
-taken folder a b done on le judged = record { later = later_by a b on le; ends = judged }
+taken folder a b done later judged = record { later = later; ends = judged }
 
-pub not_taken : (folder : List ℕ) (a b : LaneTold) (given : LayoutFault) (r : Refusal) → OnFiles a b → layout.LayoutCause {A = Unit {0}} a.files.faults b.files.faults (Err given)
+pub not_taken : (folder : List ℕ) (a b : LaneTold) (given : LayoutFault) (r : Refusal) → OnFiles a b → IsLater a b → layout.LayoutCause {A = Unit {0}} a.files.faults b.files.faults (Err given)
     → IfSome a.files.tree (λ t. layout.Answers (JudgesDestination t folder) (Err given)) → (layout.is_free given ≡ false → b.files.tree ≡ a.files.tree) → IsRefusedThere folder b.files.faults given r → Ends lane_course (taking (Folder folder)) a b (Err r)
-unfolding Ends lane_course taking MustLeave
-not_taken folder a b given r on cause judged same is = record { later = later_by a b on cause.later; ends = of given cause judged same is }
+unfolding Ends lane_course taking MayNotTake
+not_taken folder a b given r on later cause judged same is = record { later = later; ends = of given cause judged same is }
   where
     at_memory : r ≡ refusal.Memory → EndsBy {A = Unit {0}} (is_free r) lane_course r (taking (Folder folder)) a b
     at_memory e = subst (λ e. EndsBy {A = Unit {0}} (is_free e) lane_course e (taking (Folder folder)) a b) (sym e) tt
@@ -66,14 +66,14 @@ not_taken folder a b given r on cause judged same is = record { later = later_by
 
 -- ---- how files are put there
 
-pub put_done : (dest : Dest) (a b : LaneTold) (done : Unit {0}) → OnFiles a b → a.files.faults ≤ b.files.faults → Ends lane_course (putting dest) a b (Ok done)
+pub put_done : (dest : Dest) (a b : LaneTold) (done : Unit {0}) → IsLater a b → Ends lane_course (putting dest) a b (Ok done)
 unfolding Ends lane_course putting
-put_done dest a b done on le = record { later = later_by a b on le; ends = tt }
+put_done dest a b done later = record { later = later; ends = tt }
 
-pub put_stopped : (dest : Dest) (a b : LaneTold) (given : LayoutFault) (r : Refusal) → OnFiles a b → layout.LayoutCause {A = Unit {0}} a.files.faults b.files.faults (Err given) → r ≡ by_fault given b.files.faults
+pub put_stopped : (dest : Dest) (a b : LaneTold) (given : LayoutFault) (r : Refusal) → IsLater a b → layout.LayoutCause {A = Unit {0}} a.files.faults b.files.faults (Err given) → r ≡ by_fault given b.files.faults
     → Ends lane_course (putting dest) a b (Err r)
 unfolding Ends lane_course
-put_stopped dest a b given r on cause is = record { later = later_by a b on cause.later; ends = subst (λ e. EndsBy {A = Unit {0}} (is_free e) lane_course e (putting dest) a b) (sym is) (of given cause) }
+put_stopped dest a b given r later cause is = record { later = later; ends = subst (λ e. EndsBy {A = Unit {0}} (is_free e) lane_course e (putting dest) a b) (sym is) (of given cause) }
   where
     of : (given : LayoutFault) → layout.LayoutCause {A = Unit {0}} a.files.faults b.files.faults (Err given) → EndsBy {A = Unit {0}} (is_free (by_fault given b.files.faults)) lane_course (by_fault given b.files.faults) (putting dest) a b
     of fault.Files cause = record { is = refl; rose = cause.fault refl }
@@ -96,7 +96,7 @@ pub record DoesWork (folder : List ℕ) (lane : ℕ) (s t : Tree) : Type 0 where
 pub works_by : (R : Tree → Tree → Type 0) (folder : List ℕ) (a b : LaneTold) → ((s t : Tree) → R s t → DoesWork folder a.number s t) → OnFiles a b → a.files.faults ≤ b.files.faults → Told R a.files.tree b.files.tree → Works (Folder folder) a b
 unfolding Works OnlyAtDest WritesNone IsFairOn
 works_by R folder a b does on le told = record {
-  later = later_by a b on le;
+  later = later_told R a b on told le;
   only = (told_as R (OnlyIn folder) (λ s t r. (does s t r).only) a.files.tree b.files.tree told, ap (λ w. w.talks) on.to);
   none = told_as R KeepsManifests (λ s t r. (does s t r).none) a.files.tree b.files.tree told;
   fair = told_as R (λ s t. (q : List ℕ) → IsIn folder q → IsFair folder a.number s t q) (λ s t r. (does s t r).fair) a.files.tree b.files.tree told;
@@ -141,3 +141,9 @@ half_order folder a b told = told_as (IsHalfReady folder) (λ s t. ImageFirst fo
 pub prepared_by : (folder : List ℕ) (a b : LaneTold) → Told (IsReady folder) a.files.tree b.files.tree → IsPrepared (Folder folder) a b
 unfolding IsPrepared
 prepared_by folder a b told = told
+
+-- nothing was touched, or the folder could be replaced
+pub late_by : (folder : List ℕ) (a b : LaneTold) → OnFiles a b → (b.files.tree ≡ a.files.tree) ⊎ IfSome a.files.tree (λ t. MayReplace t folder) → TakesLate (Folder folder) a b
+unfolding TakesLate MayTake
+late_by folder a b on (inl same) = inl (untouched_by a b on same)
+late_by folder a b on (inr may) = inr may

@@ -1,8 +1,9 @@
 -- A step that touches nothing meets each relation of what it leaves.
-use Rattle.std.proofs.Common.{◌≡◌, ◌++◌, ℕ, List, [], ◌∷◌, Err, inl, inr, refl, sym, ap, subst}
-use Rattle.skopeo_outside.specs.Tree.{Tree}
+use Rattle.std.proofs.Common.{◌≡◌, ◌⊎◌, ◌++◌, ℕ, List, [], ◌∷◌, None, Err, inl, inr, refl, sym, ap, subst}
+use Rattle.skopeo_outside.specs.Tree.{Tree, file_at}
 use Rattle.skopeo_outside.specs.LaneTold.{LaneTold, IsLater}
 use Rattle.skopeo_outside.specs.LaneLaws.{later_same, told_same}
+use Rattle.skopeo_outside.proofs.PlaceLemmas.{each_self}
 use Rattle.skopeo_outside.specs.Steps.{Step, Ends}
 use Rattle.digest_reader.specs.declared.job.Job.{Job}
 use Rattle.layouts.specs.Trees.{OnlyIn, OnlyAt}
@@ -19,10 +20,10 @@ use Rattle.transports.specs.declared.blob.Upload.{Upload}
 use Rattle.transports.specs.Courses.{lane_course}
 use Rattle.transports.specs.StepEnds.{FailsFreely, FailsBy}
 use Rattle.transports.specs.Given.{SameIn, Spares}
-use Rattle.transports.specs.Has.{IsUntouched, OnlyAtDest, KeepsBlobs, RemovesInOrder}
-use Rattle.transports.specs.Writes.{Spot, AtPath, KeepsManifests, KeepsOthers, WritesNone, WritesOnly}
-use Rattle.transports.specs.Fair.{IsFair, IsFairOn, Works}
-use Rattle.transports.specs.Uploads.{Holds, TookFront, TookSome, OnlyPart}
+use Rattle.transports.specs.Has.{IsUntouched, OnlyAtDest, KeepsBlobs, RemovesInOrder, TakesLate}
+use Rattle.transports.specs.Writes.{Spot, AtPath, KeepsManifests, KeepsOthers, WritesNone, WritesOnly, WritesNowhere}
+use Rattle.transports.specs.Fair.{IsFair, IsFairOn, Works, AllWork}
+use Rattle.transports.specs.Uploads.{Holds, TookFront, TookSome, OnlyPart, SamePart, IsLeft}
 
 pub later_now : (a : LaneTold) → IsLater a a
 later_now a = later_same a
@@ -88,3 +89,24 @@ append_nil (x ∷ t) = ap (λ s. x ∷ s) (append_nil t)
 -- of a piece nothing was taken
 pub took_none : (dest : Dest) (job : Job) (u : Upload) (old new : LaneTold) (bytes piece : List ℕ) → Holds dest job u old new bytes → TookSome dest job old new bytes piece
 took_none dest job u old new bytes piece holds = record { count = 0; took = subst (TookFront dest job old new) (sym (append_nil bytes)) holds.took }
+
+pub left_same : (s : Source) (dest : Dest) (job : Job) (a : LaneTold) → IsLeft s dest job a a
+unfolding SamePart IsLeft
+left_same s (Folder path) job a = record {
+  only = part_same (Folder path) job a;
+  part = inl (told_same (λ t u. let part = blob_part path job.digest a.number in (file_at u part ≡ file_at t part) ⊎ (file_at u part ≡ None)) (λ t. inl refl) a.files.tree);
+}
+
+-- ---- on all lanes
+
+pub all_work_same : (dest : Dest) (lanes : List LaneTold) → AllWork dest lanes lanes
+unfolding AllWork
+all_work_same dest lanes = each_self (λ place a b. Works dest a b) (λ place a. works_same dest a) lanes
+
+pub nowhere_same : (lanes : List LaneTold) → WritesNowhere lanes lanes
+unfolding WritesNowhere
+nowhere_same lanes = each_self (λ place a b. WritesNone a b) (λ place a. none_same a) lanes
+
+pub late_same : (dest : Dest) (a : LaneTold) → TakesLate dest a a
+unfolding TakesLate
+late_same dest a = inl (untouched_same a)

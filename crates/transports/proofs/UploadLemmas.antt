@@ -22,11 +22,11 @@ use Rattle.transports.specs.Has.{StandsIn, HasBlob, KeepsBlobs, IsUntouched, Onl
 use Rattle.transports.specs.Writes.{KeepsManifests, WritesNone}
 use Rattle.transports.specs.Fair.{IsFair, IsFairOn, Works}
 use Rattle.transports.specs.Named.{AddsIn, AddsOnly}
-use Rattle.transports.specs.Uploads.{IsUploadOf, IsPartHeld, TookFront, OnlyPart, LeavesNoPart, ShowsPart, Holds, HoldsWhole, TookSome}
+use Rattle.transports.specs.Uploads.{IsUploadOf, IsPartHeld, TookFront, OnlyPart, LeavesNoPart, HeldAt, Holds, HoldsWhole, TookSome}
 use Rattle.transports.specs.Calls.{OnFiles, FilesDid}
 use Rattle.transports.proofs.ToldLemmas.{step_by, told_by, now_by}
 use Rattle.transports.proofs.DigestLemmas.{is_digest, other_blob}
-use Rattle.transports.proofs.FolderLemmas.{later_by}
+use Rattle.transports.proofs.FolderLemmas.{later_told, later_by}
 
 append_nil : {A : Type 0} (t : List A) → t ++ [] ≡ t
 append_nil [] = refl
@@ -37,7 +37,10 @@ some_of None = tt
 some_of (Some t) = tt
 
 pub did_later : (f : Tree → Tree) (a b : LaneTold) → FilesDid f a b → IsLater a b
-did_later f a b did = later_by a b did.on did.later
+did_later f a b did = later_told (λ s t. Unit {0}) a b did.on (told_by f (λ t. Unit {0}) (λ s t. Unit {0}) (λ t p. tt) a.files.tree b.files.tree (some_of a.files.tree) did.tree) did.later
+
+pub cut_later : (part piece : List ℕ) (a b : LaneTold) → Told (HasPartOf part piece) a.files.tree b.files.tree → OnFiles a b → a.files.faults ≤ b.files.faults → IsLater a b
+cut_later part piece a b cut on le = later_told (HasPartOf part piece) a b on cut le
 
 -- ---- nothing but the part
 
@@ -88,11 +91,11 @@ part_cut folder job piece a b cut on = (by a.files.tree b.files.tree cut, ap (λ
 -- ---- begun and filled
 
 pub begun : (folder : List ℕ) (job : Job) (a b : LaneTold) → FilesDid (λ t. with_file t (blob_part folder job.digest a.number) []) a b → Holds (Folder folder) job upload.File a b []
-unfolding IsUploadOf TookFront ShowsPart
+unfolding IsUploadOf TookFront HeldAt
 begun folder job a b did = record {
   of_job = tt;
   took = told_by (λ t. with_file t part []) (λ t. Unit {0}) (IsPartHeld part []) (λ t p. record { holds = file_at-with_file t part []; only = only_made part [] t }) a.files.tree b.files.tree (some_of a.files.tree) did.tree;
-  shows = subst (λ n. IfSome b.files.tree (λ t. file_at t (blob_part folder job.digest n) ≡ Some [])) (sym did.on.number)
+  held = subst (λ n. IfSome b.files.tree (λ t. file_at t (blob_part folder job.digest n) ≡ Some [])) (sym did.on.number)
       (now_by (λ t. with_file t part []) (λ t. Unit {0}) (λ t. file_at t part ≡ Some []) (λ t p. file_at-with_file t part []) a.files.tree b.files.tree (some_of a.files.tree) did.tree);
   number = did.on.number;
 }
@@ -108,13 +111,13 @@ more_held part piece bytes a b held = record { holds = more_there part piece byt
 
 pub filled : (folder : List ℕ) (job : Job) (u next : Upload) (entry a b : LaneTold) (bytes piece : List ℕ) → Holds (Folder folder) job u entry a bytes → FilesDid (λ t. with_more t (blob_part folder job.digest a.number) piece) a b → next ≡ u
     → Holds (Folder folder) job next entry b (bytes ++ piece)
-unfolding TookFront ShowsPart
+unfolding TookFront HeldAt
 filled folder job u next entry a b bytes piece has did is = record {
   of_job = subst (IsUploadOf (Folder folder) job) (sym is) has.of_job;
   took = step_by (IsPartHeld part bytes) (IsPartHeld part (bytes ++ piece)) (λ t. Unit {0}) (λ t. with_more t part piece) (λ x y r p. more_held part piece bytes x y r) entry.files.tree a.files.tree b.files.tree
       has.took (some_of a.files.tree) (subst (λ n. b.files.tree ≡ option_map (λ t. with_more t (blob_part folder job.digest n) piece) a.files.tree) has.number did.tree);
-  shows = subst (λ n. IfSome b.files.tree (λ t. file_at t (blob_part folder job.digest n) ≡ Some (bytes ++ piece))) (sym did.on.number)
-      (now_by (λ t. with_more t here piece) (λ t. file_at t here ≡ Some bytes) (λ t. file_at t here ≡ Some (bytes ++ piece)) (λ t p. more_there here piece bytes t p) a.files.tree b.files.tree has.shows did.tree);
+  held = subst (λ n. IfSome b.files.tree (λ t. file_at t (blob_part folder job.digest n) ≡ Some (bytes ++ piece))) (sym did.on.number)
+      (now_by (λ t. with_more t here piece) (λ t. file_at t here ≡ Some bytes) (λ t. file_at t here ≡ Some (bytes ++ piece)) (λ t p. more_there here piece bytes t p) a.files.tree b.files.tree has.held did.tree);
   number = did.on.number ∙ has.number;
 }
   where
@@ -157,8 +160,8 @@ dropped folder job a b did =
 
 -- what is told shows the part whole
 shows_whole : (folder : List ℕ) (job : Job) (u : Upload) (a : LaneTold) → HoldsWhole (Folder folder) job u a → (bytes : List ℕ) × IsWhole job bytes × IfSome a.files.tree (λ t. file_at t (blob_part folder job.digest a.number) ≡ Some bytes)
-unfolding ShowsPart
-shows_whole folder job u a h = (h.bytes, h.whole, h.holds.shows)
+unfolding HeldAt
+shows_whole folder job u a h = (h.bytes, h.whole, h.holds.held)
 
 -- how naming a whole part changes a folder
 module _ (folder : List ℕ) (job : Job) (number : ℕ) (bytes : List ℕ) (small : number < 2 ^ 64) (whole : IsWhole job bytes) (t : Tree) (holds : file_at t (blob_part folder job.digest number) ≡ Some bytes) where
@@ -276,7 +279,7 @@ module _ (folder : List ℕ) (job : Job) (u : Upload) (a b : LaneTold) (whole : 
 pub works_kept : (folder : List ℕ) (a b : LaneTold) → OnFiles a b → b.files.tree ≡ a.files.tree → a.files.faults ≤ b.files.faults → Works (Folder folder) a b
 unfolding Works OnlyAtDest WritesNone IsFairOn
 works_kept folder a b on same le = record {
-  later = later_by a b on le;
+  later = later_by a b on same le;
   only = (as_was (OnlyIn folder) (λ t. record { files = λ q out. refl; folders = record { made = λ p c. inl c; kept = λ p c. c } }), ap (λ w. w.talks) on.to);
   none = as_was KeepsManifests (λ t q m. inl refl);
   fair = as_was (λ s t. (q : List ℕ) → IsIn folder q → IsFair folder a.number s t q) (λ t q here. inl (inl refl));
@@ -292,11 +295,11 @@ blobs_kept folder job a b same other first differs has = subst (λ x. Told (λ s
 -- ---- what a blob that is being written holds while other things are read
 
 pub holds_later : (d : Dest) (job : Job) (u : Upload) (a b c : LaneTold) (bytes : List ℕ) → Holds d job u a b bytes → IsUntouched b c → IsLater b c → Holds d job u a c bytes
-unfolding TookFront ShowsPart
+unfolding TookFront HeldAt
 holds_later (Folder folder) job u a b c bytes has same later = record {
   of_job = has.of_job;
   took = subst (λ x. Told (IsPartHeld (blob_part folder job.digest a.number) bytes) a.files.tree x) (sym same.files) has.took;
-  shows = subst (λ n. IfSome c.files.tree (λ t. file_at t (blob_part folder job.digest n) ≡ Some bytes)) (sym later.number)
-      (subst (λ x. IfSome x (λ t. file_at t (blob_part folder job.digest b.number) ≡ Some bytes)) (sym same.files) has.shows);
+  held = subst (λ n. IfSome c.files.tree (λ t. file_at t (blob_part folder job.digest n) ≡ Some bytes)) (sym later.number)
+      (subst (λ x. IfSome x (λ t. file_at t (blob_part folder job.digest b.number) ≡ Some bytes)) (sym same.files) has.held);
   number = later.number ∙ has.number;
 }

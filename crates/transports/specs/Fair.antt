@@ -3,6 +3,7 @@ use Rattle.std.specs.Prelude.{◌≡◌, ◌⊎◌, ℕ, List, Option, Some, cod
 use Rattle.skopeo_outside.specs.Tree.{Tree, file_at}
 use Rattle.skopeo_outside.specs.Folders.{joined}
 use Rattle.skopeo_outside.specs.Outside.{Told}
+use Rattle.skopeo_outside.specs.Seen.{OnEach}
 use Rattle.skopeo_outside.specs.LaneTold.{LaneTold, IsLater}
 use Rattle.image_ref.specs.Digest.{IsDigest}
 use Rattle.digest_reader.specs.Digests.{digest}
@@ -56,3 +57,7 @@ pub record IsWork (dest : Dest) (old new : LaneTold) : Type 0 where
 -- the same, closed, so that lemmas find it by its name
 unfoldable pub Works : Dest → LaneTold → LaneTold → Type 0
 Works dest old new = IsWork dest old new
+
+-- each lane did
+unfoldable pub AllWork : Dest → List LaneTold → List LaneTold → Type 0
+AllWork dest old new = OnEach (λ place a b. Works dest a b) old new

@@ -1,6 +1,6 @@
 -- What a destination has, by what one lane told before and tells now. Each relation has one case a kind of destination.
--- Laws: what it has by two states it has by wider ones (`TellsStill` before, `KeepsBlobs` behind).
-use Rattle.std.specs.Prelude.{◌≡◌, ◌≢◌, ℕ, List, Some, IfSome}
+-- Laws: what it has by two states it has by wider ones (`IsLater` before, `KeepsBlobs` behind).
+use Rattle.std.specs.Prelude.{◌≡◌, ◌≢◌, ◌⊎◌, ℕ, List, Some, IfSome}
 use Rattle.skopeo_outside.specs.Tree.{Tree, file_at}
 use Rattle.skopeo_outside.specs.Outside.{Told}
 use Rattle.skopeo_outside.specs.LaneTold.{LaneTold}
@@ -19,10 +19,6 @@ pub record StandsIn (folder : List ℕ) (job : Job) (tree : Tree) : Type 0 where
   pub bytes : List ℕ
   pub there : file_at tree (blob_path folder job.digest) ≡ Some bytes
   pub whole : IsWhole job bytes
-
--- what the destination told it tells still
-unfoldable pub TellsStill : Dest → LaneTold → LaneTold → Type 0
-TellsStill (Folder path) old new = Told (λ a b. Unit {0}) old.files.tree new.files.tree
 
 -- the destination has the job's blob: reported present or written whole between the two states, or standing at the second
 unfoldable pub HasBlob : Dest → Job → LaneTold → LaneTold → Type 0
@@ -55,9 +51,13 @@ OnlyAtDest (Folder path) old new = Told (OnlyIn path) old.files.tree new.files.t
 unfoldable pub MayTake : Dest → LaneTold → Type 0
 MayTake (Folder path) lane = IfSome lane.files.tree (λ t. MayReplace t path)
 
--- the destination may not be replaced, as it is told
-unfoldable pub MustLeave : Dest → LaneTold → Type 0
-MustLeave (Folder path) lane = IfSome lane.files.tree (λ t. MayReplace t path → ⊥)
+-- and it may not, as it is told
+unfoldable pub MayNotTake : Dest → LaneTold → Type 0
+MayNotTake (Folder path) lane = IfSome lane.files.tree (λ t. MayReplace t path → ⊥)
+
+-- nothing was touched, or the destination could be replaced as it was
+unfoldable pub TakesLate : Dest → LaneTold → LaneTold → Type 0
+TakesLate dest old new = IsUntouched old new ⊎ MayTake dest old
 
 -- what is lost is lost in order: the image's manifest first, then those of instances, then all else
 unfoldable pub RemovesInOrder : Dest → LaneTold → LaneTold → Type 0

@@ -5,7 +5,7 @@ use Rattle.skopeo_outside.specs.Folders.{joined}
 use Rattle.skopeo_outside.specs.Outside.{Told}
 use Rattle.skopeo_outside.specs.LaneTold.{LaneTold}
 use Rattle.layouts.specs.Names.{manifest_name, prefix_of}
-use Rattle.layouts.specs.Destination.{IsReady}
+use Rattle.layouts.specs.Destination.{IsReady, IsManifestIn}
 use Rattle.layouts.specs.Trees.{SameOrGone}
 use Rattle.layouts.specs.Version.{version_text}
 use Rattle.layouts.specs.Paths.{IsIn, blob_path, version_path}
@@ -48,6 +48,10 @@ pub record HoldsOnly (folder : List ℕ) (jobs : List Job) (signatures : List (L
 -- the destination holds this image and nothing else
 unfoldable pub IsAlone : Dest → List Job → List (List ℕ) → LaneTold → LaneTold → Type 0
 IsAlone (Folder path) jobs signatures old new = Told (λ a b. HoldsOnly path jobs signatures b) old.files.tree new.files.tree
+
+-- no manifest stands at the destination
+unfoldable pub HasNoManifest : Dest → LaneTold → LaneTold → Type 0
+HasNoManifest (Folder path) old new = Told (λ a b. (q : List ℕ) → IsManifestIn path q → file_at b q ≡ None) old.files.tree new.files.tree
 
 -- the folder stands still, and each file in it is as it was or gone, but for blobs of such digests
 pub record AddsIn (folder : List ℕ) (Is : List ℕ → Type 0) (old new : Tree) : Type 0 where

@@ -29,6 +29,10 @@ pub record IsPartHeld (part bytes : List ℕ) (old new : Tree) : Type 0 where
 unfoldable pub TookFront : Dest → Job → LaneTold → LaneTold → List ℕ → Type 0
 TookFront (Folder path) job old new bytes = Told (IsPartHeld (blob_part path job.digest old.number) bytes) old.files.tree new.files.tree
 
+-- and they stand there now
+unfoldable pub HeldAt : Dest → Job → LaneTold → List ℕ → Type 0
+HeldAt (Folder path) job now bytes = IfSome now.files.tree (λ t. file_at t (blob_part path job.digest now.number) ≡ Some bytes)
+
 -- nothing but the lane's part of the job's blob was touched
 unfoldable pub OnlyPart : Dest → Job → LaneTold → LaneTold → Type 0
 OnlyPart (Folder path) job old new =
@@ -43,15 +47,11 @@ unfoldable pub SamePart : Dest → Job → LaneTold → LaneTold → Type 0
 SamePart (Folder path) job old new =
     Told (λ a b. let part = blob_part path job.digest old.number in (file_at b part ≡ file_at a part) ⊎ (file_at b part ≡ None)) old.files.tree new.files.tree
 
--- what is told now shows that the lane's part of the job's blob holds these bytes
-unfoldable pub ShowsPart : Dest → Job → LaneTold → List ℕ → Type 0
-ShowsPart (Folder path) job now bytes = IfSome now.files.tree (λ t. file_at t (blob_part path job.digest now.number) ≡ Some bytes)
-
 -- the upload holds these bytes of the job's blob
 pub record Holds (dest : Dest) (job : Job) (u : Upload) (old new : LaneTold) (bytes : List ℕ) : Type 0 where
   pub of_job : IsUploadOf dest job u
   pub took : TookFront dest job old new bytes
-  pub shows : ShowsPart dest job new bytes
+  pub held : HeldAt dest job new bytes
   pub number : new.number ≡ old.number
 
 -- the upload holds the whole blob
@@ -67,9 +67,12 @@ pub record TookSome (dest : Dest) (job : Job) (old new : LaneTold) (before piece
   pub took : TookFront dest job old new (before ++ take count piece)
 
 -- what is left of a blob that was not secured: its part is as it was or gone, or holds first bytes that the source gave
-pub record IsLeft (source : Source) (dest : Dest) (job : Job) (old new : LaneTold) : Type 0 where
+pub record LeavesFront (source : Source) (dest : Dest) (job : Job) (old new : LaneTold) : Type 0 where
   pub only : OnlyPart dest job old new
   pub part : SamePart dest job old new ⊎ ((bytes : List ℕ) × TookFront dest job old new bytes × GaveFront source job old new bytes)
+
+unfoldable pub IsLeft : Source → Dest → Job → LaneTold → LaneTold → Type 0
+IsLeft source dest job old new = LeavesFront source dest job old new
 
 -- other bytes than the job's were found
 abbrev pub is_mismatch : Cause → Bool

@@ -3,6 +3,7 @@ use Rattle.std.specs.Prelude.{◌≡◌, ◌≢◌, ◌⊎◌, ℕ, List, Option
 use Rattle.skopeo_outside.specs.Tree.{Tree, file_at}
 use Rattle.skopeo_outside.specs.Folders.{joined}
 use Rattle.skopeo_outside.specs.Outside.{Told}
+use Rattle.skopeo_outside.specs.Seen.{OnEach}
 use Rattle.skopeo_outside.specs.LaneTold.{LaneTold}
 use Rattle.layouts.specs.Names.{manifest_name}
 use Rattle.layouts.specs.Paths.{IsManifestPath}
@@ -48,3 +49,7 @@ KeepsOthers path bytes old new = (q : List ℕ) → IsManifestPath q → SameOrG
 -- no manifest was written on this lane but one with these bytes at this spot
 unfoldable pub WritesOnly : Spot → List ℕ → LaneTold → LaneTold → Type 0
 WritesOnly (AtPath path) bytes old new = Told (KeepsOthers path bytes) old.files.tree new.files.tree
+
+-- none was written on any lane
+unfoldable pub WritesNowhere : List LaneTold → List LaneTold → Type 0
+WritesNowhere old new = OnEach (λ place a b. WritesNone a b) old new

@@ -8,7 +8,7 @@ ghost use Rattle.transports.specs.Places.{dest_at};
 ghost use Rattle.transports.specs.Courses.{lane_course};
 ghost use Rattle.transports.specs.StepEnds.{taking, putting, FailsFreely};
 ghost use Rattle.transports.specs.Fair.{Works, IsFairOn};
-ghost use Rattle.transports.specs.Has.{HasBlob, IsReported, KeepsBlobs, OnlyAtDest, RemovesInOrder, KeepsAllBlobs};
+ghost use Rattle.transports.specs.Has.{HasBlob, IsReported, KeepsBlobs, OnlyAtDest, RemovesInOrder, KeepsAllBlobs, TakesLate};
 ghost use Rattle.transports.specs.Named.{IsPrepared, AreSigned, IsNamed, IsAlone, AddsOnly};
 ghost use Rattle.transports.specs.Uploads.{Holds, HoldsWhole, TookSome, OnlyPart, LeavesNoPart};
 ghost use Rattle.transports.specs.Writes.{WritesNone, WritesOnly, spot_of};
@@ -53,6 +53,7 @@ impl Dest {
         ensures ends { Ends lane_course (taking self.now) lane.old lane.new result }
         ensures prepared { OnOk result (IsPrepared self.now lane.old lane.new) }
         ensures works { Works self.now lane.old lane.new }
+        ensures late { TakesLate self.now lane.old lane.new }
         ensures order { OnErr result (RemovesInOrder self.now lane.old lane.new) }
     {
         match self {
@@ -178,7 +179,7 @@ impl Dest {
         ensures ends { Ends lane_course (putting self.now) lane.old lane.new result }
         ensures signed { let digest = option_map (λ d. d.now) part.entry in
             OnOk result (AreSigned self.now digest signatures.now lane.old lane.new) }
-        ensures alone { (entry : LaneTold) (jobs : List Job) → IsAlone self.now jobs [] entry lane.old
+        ensures alone { (jobs : List Job) (entry : LaneTold) → IsAlone self.now jobs [] entry lane.old
             → OnOk result (part.entry ≡ None → IsAlone self.now jobs signatures.now entry lane.new) }
         ensures blobs { KeepsAllBlobs self.now lane.old lane.new }
         ensures works { Works self.now lane.old lane.new }
@@ -206,7 +207,7 @@ impl Dest {
         ensures signed { let digest = option_map (λ d. d.now) part.entry in
             (signatures : List (List ℕ)) (entry : LaneTold) → AreSigned self.now digest signatures entry lane.old
             → AreSigned self.now digest signatures entry lane.new }
-        ensures alone { (entry : LaneTold) (jobs : List Job) (signatures : List (List ℕ)) → IsAlone self.now jobs signatures entry lane.old
+        ensures alone { (jobs : List Job) (signatures : List (List ℕ)) (entry : LaneTold) → IsAlone self.now jobs signatures entry lane.old
             → OnOk result (part.entry ≡ None → IsAlone self.now jobs signatures entry lane.new) }
         ensures blobs { KeepsAllBlobs self.now lane.old lane.new }
         ensures writes { let digest = option_map (λ d. d.now) part.entry in

@@ -105,7 +105,7 @@ fn drop_part<W: Wire, F: Files>(
 }
 
 /// A job's blob in a folder, of which nothing stands yet.
-#[tactic(auto, using(crate::proofs::UploadLemmas::begun, crate::proofs::UploadLemmas::part_begun, crate::proofs::UploadLemmas::part_kept, crate::proofs::FolderLemmas::later_by))]
+#[tactic(auto, using(crate::proofs::UploadLemmas::begun, crate::proofs::UploadLemmas::part_begun, crate::proofs::UploadLemmas::part_kept, crate::proofs::UploadLemmas::did_later, crate::proofs::FolderLemmas::later_by))]
 pub(crate) fn begin_blob<W: Wire, F: Files>(
     alloc: Global,
     lane: &mut Lane<W, F>,
@@ -123,7 +123,7 @@ pub(crate) fn begin_blob<W: Wire, F: Files>(
 }
 
 /// More of a job's blob in a folder.
-#[tactic(auto, using(crate::proofs::UploadLemmas::filled, crate::proofs::UploadLemmas::filled_in_part, crate::proofs::UploadLemmas::part_more, crate::proofs::UploadLemmas::part_cut, crate::proofs::FolderLemmas::later_by))]
+#[tactic(auto, using(crate::proofs::UploadLemmas::filled, crate::proofs::UploadLemmas::filled_in_part, crate::proofs::UploadLemmas::part_more, crate::proofs::UploadLemmas::part_cut, crate::proofs::UploadLemmas::did_later, crate::proofs::UploadLemmas::cut_later))]
 pub(crate) fn add_piece<W: Wire, F: Files>(
     alloc: Global,
     lane: &mut Lane<W, F>,
@@ -170,7 +170,7 @@ pub(crate) fn keep_blob<W: Wire, F: Files>(
 }
 
 /// Gives up a job's blob in a folder.
-#[tactic(auto, using(crate::proofs::UploadLemmas::dropped, crate::proofs::UploadLemmas::part_gone, crate::proofs::UploadLemmas::part_kept, crate::proofs::FolderLemmas::later_by))]
+#[tactic(auto, using(crate::proofs::UploadLemmas::dropped, crate::proofs::UploadLemmas::part_gone, crate::proofs::UploadLemmas::part_kept, crate::proofs::UploadLemmas::did_later, crate::proofs::FolderLemmas::later_by))]
 pub(crate) fn drop_blob<W: Wire, F: Files>(
     alloc: Global,
     lane: &mut Lane<W, F>,

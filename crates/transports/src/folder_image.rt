@@ -13,7 +13,7 @@ ghost use Rattle.transports.specs.declared.dest.Dest.TheVariants.{Folder};
 ghost use Rattle.transports.specs.Courses.{lane_course};
 ghost use Rattle.transports.specs.StepEnds.{taking, putting};
 ghost use Rattle.transports.specs.Fair.{Works, IsFairOn};
-ghost use Rattle.transports.specs.Has.{OnlyAtDest, RemovesInOrder, KeepsAllBlobs};
+ghost use Rattle.transports.specs.Has.{OnlyAtDest, RemovesInOrder, KeepsAllBlobs, TakesLate};
 ghost use Rattle.transports.specs.Named.{IsPrepared, AreSigned, IsNamed, IsAlone};
 ghost use Rattle.transports.specs.Writes.{WritesOnly, spot_of};
 ghost use Rattle.transports.specs.Beside.{SignsIn, NamesIn, manifest_at, manifest_part_at};
@@ -27,6 +27,7 @@ use skopeo_outside::{Files, Lane, Many, Wire};
 use std::alloc::Global;
 
 /// Empties a folder that may be replaced, and makes it.
+#[tactic(auto, using(crate::proofs::ReadyLemmas::late_by))]
 fn prepare_folder<W: Wire, F: Files>(
     alloc: Global,
     lane: &mut Lane<W, F>,
@@ -35,6 +36,7 @@ fn prepare_folder<W: Wire, F: Files>(
     ensures ends { Ends lane_course (taking (Folder folder.now)) lane.old lane.new result }
     ensures ready { OnOk result (Told (IsReady folder.now) lane.old.files.tree lane.new.files.tree) }
     ensures kept { OnErr result (Told (IsHalfReady folder.now) lane.old.files.tree lane.new.files.tree) }
+    ensures late { TakesLate (Folder folder.now) lane.old lane.new }
     ensures on { OnFiles lane.old lane.new }
     ensures later { lane.old.files.faults ≤ lane.new.files.faults }
 {
@@ -55,6 +57,7 @@ pub(crate) fn prepare<W: Wire, F: Files>(
     ensures ends { Ends lane_course (taking (Folder folder.now)) lane.old lane.new result }
     ensures prepared { OnOk result (IsPrepared (Folder folder.now) lane.old lane.new) }
     ensures works { Works (Folder folder.now) lane.old lane.new }
+    ensures late { TakesLate (Folder folder.now) lane.old lane.new }
     ensures order { OnErr result (RemovesInOrder (Folder folder.now) lane.old lane.new) }
 {
     prepare_folder(alloc, lane, folder)?;
@@ -62,7 +65,7 @@ pub(crate) fn prepare<W: Wire, F: Files>(
 }
 
 /// Puts the signatures of an image, or of an instance, in a folder.
-#[tactic(auto, using(crate::proofs::ReadyLemmas::put_done, crate::proofs::ImageLemmas::told_signs, crate::proofs::ImageLemmas::told_signs_cut))]
+#[tactic(auto, using(crate::proofs::ImageLemmas::told_signs, crate::proofs::ImageLemmas::told_signs_cut))]
 fn sign<W: Wire, F: Files>(
     alloc: Global,
     lane: &mut Lane<W, F>,
@@ -86,7 +89,7 @@ fn sign<W: Wire, F: Files>(
 }
 
 /// Names the manifest of an image, or of an instance, in a folder.
-#[tactic(auto, using(crate::proofs::ReadyLemmas::put_done, crate::proofs::ImageLemmas::told_names, crate::proofs::ImageLemmas::told_names_cut))]
+#[tactic(auto, using(crate::proofs::ImageLemmas::told_names, crate::proofs::ImageLemmas::told_names_cut))]
 fn name<W: Wire, F: Files>(
     alloc: Global,
     lane: &mut Lane<W, F>,
@@ -124,7 +127,7 @@ pub(crate) fn put_signatures<W: Wire, F: Files>(
     ensures ends { Ends lane_course (putting (Folder folder.now)) lane.old lane.new result }
     ensures signed { let digest = option_map (λ d. d.now) part.entry in
         OnOk result (AreSigned (Folder folder.now) digest signatures.now lane.old lane.new) }
-    ensures alone { (entry : LaneTold) (jobs : List Job) → IsAlone (Folder folder.now) jobs [] entry lane.old
+    ensures alone { (jobs : List Job) (entry : LaneTold) → IsAlone (Folder folder.now) jobs [] entry lane.old
         → OnOk result (part.entry ≡ None → IsAlone (Folder folder.now) jobs signatures.now entry lane.new) }
     ensures blobs { KeepsAllBlobs (Folder folder.now) lane.old lane.new }
     ensures works { Works (Folder folder.now) lane.old lane.new }
@@ -150,7 +153,7 @@ pub(crate) fn put_manifest<W: Wire, F: Files>(
     ensures signed { let digest = option_map (λ d. d.now) part.entry in
         (signatures : List (List ℕ)) (entry : LaneTold) → AreSigned (Folder folder.now) digest signatures entry lane.old
         → AreSigned (Folder folder.now) digest signatures entry lane.new }
-    ensures alone { (entry : LaneTold) (jobs : List Job) (signatures : List (List ℕ)) → IsAlone (Folder folder.now) jobs signatures entry lane.old
+    ensures alone { (jobs : List Job) (signatures : List (List ℕ)) (entry : LaneTold) → IsAlone (Folder folder.now) jobs signatures entry lane.old
         → OnOk result (part.entry ≡ None → IsAlone (Folder folder.now) jobs signatures entry lane.new) }
     ensures blobs { KeepsAllBlobs (Folder folder.now) lane.old lane.new }
     ensures writes { let digest = option_map (λ d. d.now) part.entry in

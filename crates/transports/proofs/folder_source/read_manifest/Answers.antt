@@ -17,7 +17,7 @@ pub returns-in-Err-clause-ends : goal.returns-in-Err-clause-ends
 returns-in-Err-clause-ends g c =
     let cause : HasCause {T = Limited} c.args.lane.now.files.faults (g.F.Files.faults c.manifest_file.new.files) (Err c.in-Err.stop) = search rules in
     let is : c.refused_by.result ≡ by_stop c.in-Err.stop (g.F.Files.faults c.manifest_file.new.files) = search rules in
-    files_stopped {B = Limited} _ c.args.lane.now _ c.in-Err.stop c.refused_by.result (search rules) cause is
+    files_stopped {B = Limited} _ c.args.lane.now _ c.in-Err.stop c.refused_by.result (search rules) (search rules) cause is
 
 pub returns-clause-ends : goal.returns-clause-ends
 returns-clause-ends g c =

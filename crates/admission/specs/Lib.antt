@@ -1,0 +1,3 @@
+pub mod Admission
+pub mod Parts
+pub mod Walk

@@ -1,0 +1,4 @@
+pub mod FreshLemmas
+pub mod LentLemmas
+pub mod StateLemmas
+pub mod SecureLemmas

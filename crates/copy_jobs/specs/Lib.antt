@@ -1,0 +1,3 @@
+pub mod Secured
+pub mod Lane
+pub mod Lent

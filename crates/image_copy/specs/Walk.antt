@@ -1,0 +1,43 @@
+-- How the copy of an image ends: its steps in order, the first refusal counting. Each step says which ends it may come to
+-- between what was told before it and behind it; the walk puts them one after the other.
+use Rattle.std.specs.Prelude.{◌≡◌, List, Result, Ok, Err, ⊤}
+use Rattle.skopeo_outside.specs.Seen.{Seen}
+use Rattle.skopeo_outside.specs.Steps.{◌>>=◌, given}
+use Rattle.skopeo_outside.specs.OnLanes.{SeenStep, on_first}
+use Rattle.digest_reader.specs.declared.job.Job.{Job}
+use Rattle.policy_file.specs.PolicyLists.{PolicyLists}
+use Rattle.transports.specs.declared.source.Source.{Source}
+use Rattle.transports.specs.declared.dest.Dest.{Dest}
+use Rattle.transports.specs.declared.plan.CopyPlan.{CopyPlan}
+use Rattle.transports.specs.declared.report.Copied.{Copied}
+use Rattle.transports.specs.declared.refusal.Refusal.{Refusal}
+use Rattle.transports.specs.Places.{dest_at}
+use Rattle.transports.specs.Courses.{lane_course}
+use Rattle.transports.specs.StepEnds.{taking, putting}
+use Rattle.admission.specs.Walk.{admission}
+use Rattle.copy_jobs.specs.Secured.{JobsEnd}
+use Rattle.image_copy.specs.Report.{copied_of}
+
+-- that a step went well, without what it answered
+abbrev pub forget : {A : Type 0} → Result A Refusal → Result ⊤ Refusal
+forget (Ok x) = Ok tt
+forget (Err e) = Err e
+
+-- all jobs, on the lanes that are used
+unfoldable pub securing : Source → Dest → List Job → SeenStep Refusal ⊤
+securing from to jobs old new r = JobsEnd from to jobs old.lanes new.lanes r × (new.helper ≡ old.helper)
+
+-- the destination is taken, and then the jobs are done
+unfoldable pub readying : Source → Dest → List Job → SeenStep Refusal ⊤
+readying from to jobs = do
+  _ ← on_first lane_course (taking to)
+  securing from to jobs
+
+-- one image. (Place for conversion, ahead of the destination; and for instances, each before its list.)
+unfoldable pub image_end : CopyPlan → PolicyLists → SeenStep Refusal Copied
+image_end plan policy = do
+  to ← given (dest_at plan.dest)
+  it ← on_first lane_course (admission plan policy)
+  _ ← readying it.from to it.image.jobs
+  _ ← on_first lane_course (putting to)
+  given (Ok (copied_of it.image))
