@@ -3,3 +3,5 @@ pub mod LentLemmas
 pub mod StateLemmas
 pub mod SecureLemmas
 pub mod RunLemmas
+pub mod PassLemmas
+pub mod CarryLemmas

@@ -1,5 +1,5 @@
 // What a source gives of an image.
-ghost use Rattle.std.specs.Prelude.{◌≡◌, ◌+◌, ◌<◌, ◌≤◌, ◌++◌, ◌^◌, [], List, ℕ, Ok, IfOk, IfErr, length, take};
+ghost use Rattle.std.specs.Prelude.{◌≡◌, ◌+◌, ◌<◌, ◌≤◌, ◌++◌, ◌^◌, [], List, ℕ, false, Ok, IfOk, IfErr, length, take};
 ghost use Rattle.std.specs.Option.{option_map};
 ghost use Rattle.skopeo_outside.specs.LaneTold.{LaneTold, IsLater};
 ghost use Rattle.skopeo_outside.specs.Steps.{Ends, Says};
@@ -8,6 +8,7 @@ ghost use Rattle.transports.specs.Courses.{lane_course};
 ghost use Rattle.transports.specs.StepEnds.{reading, FailsBy};
 ghost use Rattle.transports.specs.Given.{Spares, ManifestEnds, SignaturesEnd, GaveAll, HasGiven, count_of};
 ghost use Rattle.transports.specs.Has.{IsUntouched};
+ghost use Rattle.transports.specs.Uploads.{is_mismatch};
 
 use crate::blob::Blob;
 use crate::folder_source;
@@ -82,6 +83,7 @@ impl Source {
     ) -> Result<Blob, Cause>
         ensures opened { IfOk result (λ blob. HasGiven self.now job.now blob lane.old lane.new []) }
         ensures failed { IfErr result (λ e. FailsBy self.now job.now e lane.old lane.new) }
+        ensures unjudged { IfErr result (λ e. is_mismatch e ≡ false) }
         ensures untouched { IsUntouched lane.old lane.new }
         ensures spares { Spares self.now lane.old lane.new }
         ensures later { IsLater lane.old lane.new }
@@ -108,6 +110,7 @@ impl Source {
             → IfOk result (λ count. count ≡ 0 → GaveAll self.now job.now entry lane.new given) }
         ensures failed { (entry : LaneTold) (given : List ℕ) → HasGiven self.now job.now blob.old entry lane.old given
             → IfErr result (λ e. FailsBy self.now job.now e lane.old lane.new) }
+        ensures unjudged { IfErr result (λ e. is_mismatch e ≡ false) }
         ensures untouched { IsUntouched lane.old lane.new }
         ensures spares { Spares self.now lane.old lane.new }
         ensures later { IsLater lane.old lane.new }
