@@ -9,4 +9,3 @@ pub mod Hiring
 pub mod Running
 pub mod Alone
 pub mod AskedLemmas
-pub mod Lasting

@@ -20,6 +20,3 @@ pub use cause::{BlobMismatch, Cause};
 pub use lane::BlobLane;
 pub use receipt::{Done, How, JobFault, Receipt};
 pub use secure::secure_all;
-
-#[cfg(test)]
-mod tests;

@@ -6,6 +6,3 @@ mod job;
 
 pub use digester::{Digester, Mismatch, digest_of};
 pub use job::Job;
-
-#[cfg(test)]
-mod tests;

@@ -23,6 +23,3 @@ pub use exchanging::exchange;
 pub use law::plain_exchanges;
 pub use location::{Lead, lead_at, location_in, port_of};
 pub use pieces::{begin, end, send_piece};
-
-#[cfg(test)]
-mod tests;

@@ -18,6 +18,3 @@ pub use framing::{Framing, framing_of, is_encoded};
 pub use head::{Field, Head, is_interim, read_head};
 pub use law::{one_head, one_outcome, own_writes};
 pub use request::{Request, write_head};
-
-#[cfg(test)]
-mod tests;

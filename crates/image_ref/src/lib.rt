@@ -15,9 +15,6 @@ mod place;
 mod reference;
 mod split;
 mod tag;
-#[cfg(test)]
-mod tests;
-
 pub use clean::{clean_once, clean_path};
 pub use cut::cut_at;
 pub use digest::{Digest, read_digest};

@@ -15,6 +15,3 @@ pub use leaf::{
 };
 pub use path::{Path, Step};
 pub use tree::read_tree;
-
-#[cfg(test)]
-mod tests;

@@ -1,18 +1,13 @@
-//! A registry for trials: what it writes on a connection is what a finite map gives for the head that it read.
+//! A registry for trials on a port of this machine, as the words of the command line say.
 #![tactic(auto)]
 
-mod answer;
-mod image;
 mod registry;
-mod request;
-mod unanswered;
-mod words;
 
+use lab_registry::{Task, read_task};
 use registry::run_registry;
 use std::process::ExitCode;
 use std::rt::Env;
 use std::{env, io};
-use words::{Task, read_task};
 
 /// The words that are known.
 const KNOWN: &str = "lab registry PORT COUNT";
@@ -52,6 +47,3 @@ fn main(rt: HostRuntime) -> ExitCode {
         }
     }
 }
-
-#[cfg(test)]
-mod tests;

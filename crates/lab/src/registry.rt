@@ -1,9 +1,7 @@
 // The registry's listener: one connection after the other.
 ghost use Rattle.std.specs.Prelude.{◌≡◌};
 
-use crate::answer::answer_request;
-use crate::image::hold_image;
-use crate::unanswered::Unanswered;
+use lab_registry::{Unanswered, answer_request, hold_image};
 use skopeo_outside::{MapPeer, Memory};
 use std::alloc::Global;
 use std::fmt::{Display, Formatter};

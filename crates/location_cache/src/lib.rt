@@ -12,6 +12,3 @@ pub use cache::{Cache, CacheRow};
 pub use candidates::Candidates;
 pub use desk::{Desk, DeskSeat};
 pub use view::{Jobs, View};
-
-#[cfg(test)]
-mod tests;

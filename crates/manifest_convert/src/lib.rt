@@ -9,6 +9,3 @@ mod kind;
 pub use any::read_any_image;
 pub use blobs::blobs_of;
 pub use kind::kind_of;
-
-#[cfg(test)]
-mod tests;

@@ -4,6 +4,3 @@
 mod image;
 
 pub use image::{read_image, write_image};
-
-#[cfg(test)]
-mod tests;

@@ -19,6 +19,3 @@ pub use list::{List, ListEntry, Platform};
 pub use reading::read_descriptor;
 pub use sizes::Sizes;
 pub use write::write_image;
-
-#[cfg(test)]
-mod tests;

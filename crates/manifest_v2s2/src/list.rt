@@ -106,39 +106,3 @@ impl Platform {
         })
     }
 }
-
-#[cfg(test)]
-mod tests {
-    use super::*;
-    use std::test::Fail;
-
-    #[test]
-    fn a_platform_shows_its_members(rt: HostRuntime) -> Result<(), Fail> {
-        let alloc = rt.alloc();
-        let mut texts = Many::new(alloc);
-        texts.push(Pair {
-            name: Text::copy_of(alloc, "os.version")?,
-            value: Text::copy_of(alloc, "10.0")?,
-        })?;
-        let mut items = Many::new(alloc);
-        items.push(Text::copy_of(alloc, "win32k")?)?;
-        let mut lists = Many::new(alloc);
-        lists.push(TextList {
-            name: Text::copy_of(alloc, "os.features")?,
-            items,
-        })?;
-        let platform = Platform {
-            os: Text::copy_of(alloc, "linux")?,
-            arch: Text::copy_of(alloc, "arm64")?,
-            variant: Some(Text::copy_of(alloc, "v8")?),
-            texts,
-            lists,
-        };
-        let copy = platform.copy(alloc)?;
-        assert_eq!(rt; copy.os(), "linux");
-        assert_eq!(rt; copy.arch(), "arm64");
-        assert_eq!(rt; copy.variant().unwrap_or("none"), "v8");
-        assert_eq!(rt; copy.lists.len(), 1);
-        Ok(())
-    }
-}

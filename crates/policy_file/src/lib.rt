@@ -11,9 +11,6 @@ mod read;
 mod refusal;
 mod requirement;
 mod scopes;
-#[cfg(test)]
-mod tests;
-
 pub use fault::{PolicyFault, PolicyKind};
 pub use policy::{Policy, Transport};
 pub use read::read_policy;

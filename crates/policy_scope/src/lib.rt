@@ -4,10 +4,7 @@
 mod choice;
 mod docker;
 mod identity;
-mod lookup;
-#[cfg(test)]
-mod tests;
-mod wildcards;
+mod lookup;mod wildcards;
 
 pub use choice::{Chosen, choose};
 pub use identity::Identity;

@@ -1,6 +1,6 @@
 // The calls of an object in memory that are to fail.
 ghost use Rattle.std.specs.Prelude.{◌≡◌, ◌≤◌, OnOk, OnErr, IfErr, IsErrOf};
-ghost use Rattle.skopeo_outside.specs.Outside.{HasCause};
+ghost use Rattle.skopeo_outside.specs.Failing.{FailsAsListed};
 
 use crate::stop::Stop;
 
@@ -8,14 +8,16 @@ use crate::stop::Stop;
 #[derive(Drop)]
 pub struct Failures {
     pub calls: u64,
-    failing: Vec<u64>,
+    pub failing: Vec<u64>,
     pub count: u64,
 }
 
 impl Failures {
     /// The calls of these numbers, from 1, fail. None was made yet.
     pub fn new(failing: Vec<u64>) -> Self
-        ensures { result.count ≡ 0 }
+        ensures calls { result.calls ≡ 0 }
+        ensures failing { result.failing.items ≡ failing.items }
+        ensures count { result.count ≡ 0 }
     {
         Failures {
             calls: 0,
@@ -26,7 +28,7 @@ impl Failures {
 
     /// Counts a call, which fails where its number stands in the list.
     pub fn next(&mut self) -> Result<(), Stop>
-        ensures cause { HasCause self.old.count self.new.count result }
+        ensures calls { FailsAsListed self.old self.new result }
         ensures ok { OnOk result (self.new.count ≡ self.old.count) }
         ensures fault { IfErr result (λ stop. stop ≡ Stop.Fault) }
     {

@@ -1,5 +1,7 @@
 // A wire and helper on which every call fails, and a wire round a wire.
-ghost use Rattle.std.specs.Prelude.{◌≡◌, None, false};
+ghost use Rattle.std.specs.Prelude.{◌≡◌, ◌≤◌, None, IsErrOf, IsFalse};
+ghost use Rattle.skopeo_outside.specs.Outside.{HasCause};
+ghost use Rattle.skopeo_outside.specs.Failing.{risen};
 
 use crate::helper::Helper;
 use crate::lists::Many;
@@ -9,19 +11,30 @@ use crate::wire::Wire;
 /// A wire and helper that tells nothing and on which every call fails.
 #[derive(Drop)]
 pub struct Idle {
-    count: u64,
-    connected: bool,
+    pub count: u64,
+    pub connected: bool,
 }
 
 impl Idle {
     /// An object none of whose calls has failed yet.
     pub fn new() -> Self
-        ensures { result.count ≡ 0 }
+        ensures count { result.count ≡ 0 }
+        ensures closed { IsFalse result.connected }
     {
         Idle {
             count: 0,
             connected: false,
         }
+    }
+
+    /// Counts a fault.
+    fn fail(&mut self) -> Stop
+        ensures fault { result ≡ Stop.Fault }
+        ensures count { self.new.count ≡ risen self.old.count }
+        ensures later { self.old.count ≤ self.new.count }
+    {
+        self.count = self.count.saturating_add(1);
+        Stop::Fault
     }
 }
 
@@ -32,19 +45,28 @@ impl Wire for Idle {
 
     ghost faults = { λ w. w.count };
 
-    fn connect(&mut self, _host: &str, _port: u16) -> Result<(), Stop> {
-        self.count = self.count.saturating_add(1);
-        Err(Stop::Fault)
+    fn connect(&mut self, _host: &str, _port: u16) -> Result<(), Stop>
+        ensures fails { IsErrOf result Stop.Fault }
+        ensures count { self.new.count ≡ risen self.old.count }
+        ensures cause { HasCause self.old.count self.new.count result }
+    {
+        Err(self.fail())
     }
 
-    fn send(&mut self, _bytes: &[u8]) -> Result<(), Stop> {
-        self.count = self.count.saturating_add(1);
-        Err(Stop::Fault)
+    fn send(&mut self, _bytes: &[u8]) -> Result<(), Stop>
+        ensures fails { IsErrOf result Stop.Fault }
+        ensures count { self.new.count ≡ risen self.old.count }
+        ensures cause { HasCause self.old.count self.new.count result }
+    {
+        Err(self.fail())
     }
 
-    fn recv(&mut self, _into: &mut [u8]) -> Result<usize, Stop> {
-        self.count = self.count.saturating_add(1);
-        Err(Stop::Fault)
+    fn recv(&mut self, _into: &mut [u8]) -> Result<usize, Stop>
+        ensures fails { IsErrOf result Stop.Fault }
+        ensures count { self.new.count ≡ risen self.old.count }
+        ensures cause { HasCause self.old.count self.new.count result }
+    {
+        Err(self.fail())
     }
 
     fn close(&mut self) {
@@ -67,9 +89,12 @@ impl Helper for Idle {
         _input: &[u8],
         _limit: usize,
         _answer: &mut Many<u8>,
-    ) -> Result<i32, Stop> {
-        self.count = self.count.saturating_add(1);
-        Err(Stop::Fault)
+    ) -> Result<i32, Stop>
+        ensures fails { IsErrOf result Stop.Fault }
+        ensures count { self.new.count ≡ risen self.old.count }
+        ensures cause { HasCause self.old.count self.new.count result }
+    {
+        Err(self.fail())
     }
 
     fn faults(&self) -> u64 {

@@ -10,6 +10,7 @@ mod line;
 mod listing;
 mod lists;
 mod map_peer;
+mod mem_helper;
 mod mem_wire;
 mod memory;
 mod pair;
@@ -27,6 +28,7 @@ pub use lane::Lane;
 pub use line::{Peer, SureWire};
 pub use lists::{Entry, Many, Text};
 pub use map_peer::{MapPeer, PeerFraming};
+pub use mem_helper::{Ended, MemHelper, Ran, Reply, SureHelper};
 pub use mem_wire::MemWire;
 pub use memory::{MemFiles, SureFiles};
 pub use pair::Pair;
@@ -35,6 +37,3 @@ pub use sink::{MemSink, Sink, SureSink};
 pub use stop::{Memory, Stop};
 pub use wire::Wire;
 pub use words::{Fetched, Step, What};
-
-#[cfg(test)]
-mod tests;

@@ -1,8 +1,9 @@
 // A wire in memory, whose other end is a value.
 ghost use Rattle.skopeo_outside.specs.declared.line.Talk.{Talk};
-ghost use Rattle.std.specs.Prelude.{List, ◌≡◌, ◌==◌, ◌&&◌, ◌≤◌, ◌++◌, ◌<◌, Some, is_some, length, IfOk, OnErr, OnOk, IsTrue, IsErrOf};
-ghost use Rattle.skopeo_outside.specs.Wire.{begun, on_last, with_sent, with_received};
+ghost use Rattle.std.specs.Prelude.{List, ⊤, [], ◌∷◌, IsFalse, take, ◌≡◌, ◌==◌, ◌&&◌, ◌≤◌, ◌++◌, ◌<◌, Some, is_some, length, IfOk, OnErr, OnOk, IsTrue, IsErrOf};
+ghost use Rattle.skopeo_outside.specs.Wire.{SendsPart, begun, on_last, with_sent, with_received};
 ghost use Rattle.skopeo_outside.specs.Talks.{all_kept, kept, kept_last};
+ghost use Rattle.skopeo_outside.specs.Line.{AnswersOf, line_told, line_open, line_peer, line_piece, is_asked, left, Begins, Sends, Receives, IsFresh, KeepsEnd, Comes, Gives};
 
 use crate::lists::Many;
 use crate::stop::{Memory, Stop};
@@ -11,6 +12,9 @@ use std::alloc::Global;
 
 /// The other end of a wire in memory.
 pub trait Peer {
+    /// Relates the peer, the host and port, what was sent, the list before and after an answer, and the peer then.
+    ghost answers: { AnswersOf Self } = { λ _ _ _ _ _ _ _. ⊤ };
+
     /// Adds the answer to what was sent so far on this connection.
     fn answer(
         &mut self,
@@ -18,7 +22,8 @@ pub trait Peer {
         port: u16,
         sent: &[u8],
         into: &mut Many<u8>,
-    ) -> Result<(), Memory>;
+    ) -> Result<(), Memory>
+        ensures answer { OnOk result (answers self.old host.now port sent.now into.old into.new self.new) };
 }
 
 /// A conversation as it is kept.
@@ -108,7 +113,12 @@ pub struct SureWire<P: Peer + Drop> {
 
 impl<P: Peer + Drop> SureWire<P> {
     /// A wire to the peer, which gives at most `piece` bytes at a time.
-    pub fn new(alloc: Global, peer: P, piece: usize) -> Self {
+    pub fn new(alloc: Global, peer: P, piece: usize) -> Self
+        ensures conversations { line_told result ≡ Some [] }
+        ensures closed { IsFalse (line_open result) }
+        ensures peer { line_peer result ≡ peer }
+        ensures piece { line_piece result ≡ piece }
+    {
         SureWire {
             alloc,
             peer,
@@ -123,43 +133,54 @@ impl<P: Peer + Drop> SureWire<P> {
     }
 
     /// The other end.
-    pub fn peer(&self) -> &P {
+    pub fn peer(&self) -> &P
+        ensures { result.now ≡ line_peer self.now }
+    {
         &self.peer
     }
 
     /// Asks the peer, unless nothing was sent since it was asked last.
     fn ask(&mut self) -> Result<(), Stop>
+        requires { IsTrue (is_some self.old.last) }
         ensures last { self.new.last ≡ self.old.last }
         ensures past { self.new.past ≡ self.old.past }
         ensures connected { self.new.connected ≡ self.old.connected }
+        ensures piece { self.new.piece ≡ self.old.piece }
         ensures given { OnOk result (self.new.given ≤ length self.new.answer) }
+        ensures comes { OnOk result (Comes P.answers self.old self.new (left self.new)) }
+        ensures asked { OnOk result (IsTrue (is_asked self.new)) }
         ensures err { OnErr result (IsErrOf result Stop.Memory) }
     {
+        if self.asked {
+            self.given = self.given.min(self.answer.len());
+            return Ok(());
+        }
+        let mut answer = Many::new(self.alloc);
         if let Some(talk) = &self.last {
-            if !self.asked {
-                let mut answer = Many::new(self.alloc);
-                self.peer
-                    .answer(&talk.host, talk.port, &talk.sent, &mut answer)?;
-                self.answer = answer;
-                self.given = 0;
-                self.asked = true;
-            }
+            self.peer
+                .answer(&talk.host, talk.port, &talk.sent, &mut answer)?;
         }
-        if self.given > self.answer.len() {
-            self.given = self.answer.len();
-        }
+        self.answer = answer;
+        self.given = 0;
+        self.asked = true;
         Ok(())
     }
 }
 
 impl<P: Peer + Drop> Wire for SureWire<P> {
-    ghost conversations = { λ w. Some (all_kept w.past.items w.last) };
+    ghost conversations = { line_told };
 
-    ghost is_open = { λ w. w.connected && is_some w.last };
+    ghost is_open = { line_open };
 
     ghost faults = { λ _. 0 };
 
-    fn connect(&mut self, host: &str, port: u16) -> Result<(), Stop> {
+    fn connect(&mut self, host: &str, port: u16) -> Result<(), Stop>
+        ensures open { OnOk result (IsTrue (line_open self.new)) }
+        ensures gained { OnOk result (Begins host.now port self.old self.new) }
+        ensures wanted { OnErr result (IsErrOf result Stop.Memory × (line_told self.new ≡ line_told self.old)) }
+        ensures fresh { OnOk result (IsFresh self.new) }
+        ensures end { KeepsEnd self.old self.new }
+    {
         self.connected = false;
         let talk = Talk::new(self.alloc, host, port)?;
         go_on(&mut self.past, &mut self.last, talk)?;
@@ -170,23 +191,42 @@ impl<P: Peer + Drop> Wire for SureWire<P> {
         Ok(())
     }
 
-    fn send(&mut self, bytes: &[u8]) -> Result<(), Stop> {
+    fn send(&mut self, bytes: &[u8]) -> Result<(), Stop>
+        requires { IsTrue (line_open self.old) }
+        ensures open { OnOk result (IsTrue (line_open self.new)) }
+        ensures sent { OnOk result (Sends bytes.now self.old self.new) }
+        ensures part { OnErr result (SendsPart bytes.now (line_told self.old) (line_told self.new)) }
+        ensures wanted { OnErr result (IsErrOf result Stop.Memory × (line_told self.new ≡ line_told self.old)) }
+        ensures asks { OnOk result (IsFalse (is_asked self.new)) }
+        ensures end { KeepsEnd self.old self.new }
+    {
         note_sent(&mut self.last, bytes)?;
         self.asked = false;
         Ok(())
     }
 
-    fn recv(&mut self, into: &mut [u8]) -> Result<usize, Stop> {
+    fn recv(&mut self, into: &mut [u8]) -> Result<usize, Stop>
+        requires { IsTrue (line_open self.old) }
+        ensures open { OnOk result (IsTrue (line_open self.new)) }
+        ensures within { IfOk result (λ count. count ≤ length into.new) }
+        ensures received { IfOk result (Receives self.old self.new into.new) }
+        ensures gives { IfOk result (Gives P.answers self.old self.new (length into.old) into.new) }
+        ensures wanted { OnErr result (IsErrOf result Stop.Memory × (line_told self.new ≡ line_told self.old)) }
+    {
         self.ask()?;
-        let left = self.answer.len() - self.given;
-        let count = left.min(into.len()).min(self.piece);
+        let rest = self.answer.len() - self.given;
+        let count = rest.min(into.len()).min(self.piece);
         into[..count].copy_from_slice(&self.answer.as_slice()[self.given..self.given + count]);
         note_received(&mut self.last, &into[..count])?;
         self.given += count;
         Ok(count)
     }
 
-    fn close(&mut self) {
+    fn close(&mut self)
+        ensures closed { IsFalse (line_open self.new) }
+        ensures nothing { line_told self.new ≡ line_told self.old }
+        ensures end { KeepsEnd self.old self.new }
+    {
         self.connected = false;
     }
 

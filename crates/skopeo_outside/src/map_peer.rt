@@ -167,20 +167,23 @@ impl MapPeer {
         }
     }
 
-    /// Holds bytes of a type at a target.
+    /// Holds bytes of a type at a target. Without memory it stays.
     fn put(&mut self, target: &str, media: &str, bytes: Many<u8>) -> Result<(), Memory>
         ensures types { OnOk result (self.new.types ≡ with_file self.old.types target.now media.now) }
         ensures bodies { OnOk result (self.new.bodies ≡ with_file self.old.bodies target.now bytes) }
         ensures framing { self.new.framing ≡ self.old.framing }
-        ensures err { OnErr result (self.new.bodies ≡ self.old.bodies) }
+        ensures unchanged { OnErr result (self.new ≡ self.old) }
     {
         let mut kind = Many::new(self.alloc);
         kind.extend(media.as_bytes())?;
-        self.types.put(target, kind)?;
-        self.bodies.put(target, bytes)
+        let mut types = self.types.again()?;
+        types.put(target, kind)?;
+        self.bodies.put(target, bytes)?;
+        self.types = types;
+        Ok(())
     }
 
-    /// Holds a manifest of a repository, by its tag or its digest.
+    /// Holds a manifest of a repository, by its tag or its digest. Without memory the registry stays.
     pub fn put_manifest(
         &mut self,
         name: &str,
@@ -191,18 +194,18 @@ impl MapPeer {
         ensures types { OnOk result (self.new.types ≡ with_file self.old.types (manifest_target name.now reference.now) media.now) }
         ensures bodies { OnOk result (self.new.bodies ≡ with_file self.old.bodies (manifest_target name.now reference.now) bytes) }
         ensures framing { self.new.framing ≡ self.old.framing }
-        ensures err { OnErr result (self.new.bodies ≡ self.old.bodies) }
+        ensures unchanged { OnErr result (self.new ≡ self.old) }
     {
         let target = target_in(self.alloc, name, "/manifests/", reference)?;
         self.put(target.as_str(), media, bytes)
     }
 
-    /// Holds a blob of a repository, by its digest.
+    /// Holds a blob of a repository, by its digest. Without memory the registry stays.
     pub fn put_blob(&mut self, name: &str, digest: &str, bytes: Many<u8>) -> Result<(), Memory>
         ensures types { OnOk result (self.new.types ≡ with_file self.old.types (blob_target name.now digest.now) (codes "application/octet-stream")) }
         ensures bodies { OnOk result (self.new.bodies ≡ with_file self.old.bodies (blob_target name.now digest.now) bytes) }
         ensures framing { self.new.framing ≡ self.old.framing }
-        ensures err { OnErr result (self.new.bodies ≡ self.old.bodies) }
+        ensures unchanged { OnErr result (self.new ≡ self.old) }
     {
         let target = target_in(self.alloc, name, "/blobs/", digest)?;
         self.put(target.as_str(), "application/octet-stream", bytes)
@@ -243,19 +246,10 @@ impl MapPeer {
         }
         push_bare(into, "405 Method Not Allowed")
     }
-}
 
-impl Peer for MapPeer {
-    /// Adds the answer to what was sent so far. The only error is want of memory.
-    fn answer(
-        &mut self,
-        _host: &str,
-        _port: u16,
-        sent: &[u8],
-        into: &mut Many<u8>,
-    ) -> Result<(), Memory>
-        ensures answer { OnOk result (into.new ≡ into.old ++ peer_answer self.old sent.now) }
-        ensures kept { self.new ≡ self.old }
+    /// Adds the answer to what was sent so far.
+    fn answer_sent(&self, sent: &[u8], into: &mut Many<u8>) -> Result<(), Memory>
+        ensures { OnOk result (into.new ≡ into.old ++ peer_answer self.now sent.now) }
     {
         match str::from_utf8(first_line(sent)) {
             Ok(line) => {
@@ -267,5 +261,26 @@ impl Peer for MapPeer {
                 Ok(())
             }
         }
+    }
+}
+
+impl Peer for MapPeer {
+    ghost answers = { λ old _ _ sent before after new. (after ≡ before ++ peer_answer old sent) × (new ≡ old) };
+
+    /// Adds the answer to what was sent so far. The only error is want of memory.
+    fn answer(
+        &mut self,
+        _host: &str,
+        _port: u16,
+        sent: &[u8],
+        into: &mut Many<u8>,
+    ) -> Result<(), Memory>
+        ensures answer { OnOk result (into.new ≡ into.old ++ peer_answer self.old sent.now) }
+        ensures unchanged { OnErr result (into.new ≡ into.old) }
+        ensures kept { self.new ≡ self.old }
+    {
+        let mut added = Many::new(self.alloc);
+        self.answer_sent(sent, &mut added)?;
+        into.extend(added.as_slice())
     }
 }

@@ -14,10 +14,7 @@ mod made;
 mod pairs;
 mod parts;
 mod read;
-mod table;
-#[cfg(test)]
-mod tests;
-mod value;
+mod table;mod value;
 
 pub use command::{Command, CommandName, Common, Format, Passing, SyncEnd};
 pub use fault::{WordsFault, WordsKind};

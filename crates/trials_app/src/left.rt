@@ -1,0 +1,40 @@
+// What a command left.
+use skopeo_outside::{Entry, Many, MemSink, Memory, Shelf, Text};
+use std::alloc::Global;
+use std::str::from_utf8;
+
+/// A folder of the destination by its name and a slash, a file by its name and its bytes: as a text up to 64, or their number.
+fn push_entry(alloc: Global, text: &mut Text, shelf: &Shelf, entry: &Entry) -> Result<(), Memory> {
+    let name = entry.name.as_str();
+    if entry.folder {
+        return text.push_str(format!(in alloc; " {name}/")?.as_str());
+    }
+    let path = format!(in alloc; "/w/dst/{name}")?;
+    let bytes = shelf.get(path.as_str()).unwrap_or(&[]);
+    let count = bytes.len();
+    let said = if count > 64 {
+        format!(in alloc; " {name}={count}")?
+    } else {
+        format!(in alloc; " {name}={:?}", from_utf8(bytes).unwrap_or("no text"))?
+    };
+    text.push_str(said.as_str())
+}
+
+/// The status, what was printed, what was said, and what stands in `/w/dst`.
+pub fn left_text(
+    alloc: Global,
+    status: u8,
+    shelf: &Shelf,
+    out: &MemSink,
+    err: &MemSink,
+) -> Result<Text, Memory> {
+    let printed = from_utf8(out.written.as_slice()).unwrap_or("no text");
+    let said = from_utf8(err.written.as_slice()).unwrap_or("no text");
+    let mut text = Text::from_string(format!(in alloc; "{status} | {printed:?} | {said:?} |")?);
+    let mut entries = Many::new(alloc);
+    shelf.list("/w/dst", &mut entries)?;
+    for entry in entries.as_slice() {
+        push_entry(alloc, &mut text, shelf, entry)?;
+    }
+    Ok(text)
+}

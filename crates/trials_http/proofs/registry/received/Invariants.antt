@@ -1,0 +1,5 @@
+use Rattle.std.proofs.Common.{IsTrue}
+use Rattle.trials_http.proofs.registry.received.Given as goal
+
+abbrev pub invariant-loop : goal.invariant-loop
+invariant-loop g l = IsTrue (g.W.Wire.is_open l.wire)
