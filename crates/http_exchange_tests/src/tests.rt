@@ -71,7 +71,7 @@ fn redirected(alloc: Global, failing: u64) -> Result<(&'static str, u64), Memory
     let result = exchange(alloc, &mut wire, &request, Step::Blob, &[], 20);
     let word = match &result {
         Ok(response) => {
-            if response.body.as_slice() == b"abc" {
+            if response.body.as_slice() == b"abc".as_slice() {
                 "whole"
             } else {
                 "cut"

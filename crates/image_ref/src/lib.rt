@@ -15,6 +15,7 @@ mod place;
 mod reference;
 mod split;
 mod tag;
+
 pub use clean::{clean_once, clean_path};
 pub use cut::cut_at;
 pub use digest::{Digest, read_digest};

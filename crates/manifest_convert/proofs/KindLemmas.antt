@@ -1,16 +1,16 @@
 -- The kind of a tree is given, or its first bad member named.
-use Rattle.std.proofs.Common.{◌≡◌, ℕ, codes, cond, Bool, true, false, List, Option, Some, None, Result, Ok, Err, refl}
-use Rattle.serde_json.specs.Data.{Data, null, boolean, number, string, array, object, Members}
+use Rattle.std.proofs.Common.{ℕ, codes, cond, Bool, true, false, List, Option, Some, None, Result, Ok, Err, refl}
+use Rattle.serde_json.specs.Data.{Data, null, boolean, number, string, array, object}
 use Rattle.serde_json.specs.Find.{get}
 use Rattle.json_tree.specs.declared.path.Step.TheVariants.{Name}
-use Rattle.json_tree.specs.Checked.{Checked, under, both}
-use Rattle.json_tree.specs.First.{Path, Below, ◌or◌, NamesFirst}
-use Rattle.json_tree.specs.Tree.{tree, pointer}
+use Rattle.json_tree.specs.Checked.{under, both}
+use Rattle.json_tree.specs.First.{NamesFirst}
+use Rattle.json_tree.specs.Tree.{tree}
 use Rattle.json_tree.proofs.FirstLemmas.{NamesFirst-map, NamesFirst-itself, NamesFirst-five, IsInOrder}
 use Rattle.manifest_v2s2.specs.Media.{is_list}
 use Rattle.manifest_v2s2.specs.Descriptor.{checked_some}
 use Rattle.manifest_v2s2.specs.Image.{absent, version_checked}
-use Rattle.manifest_v2s2.specs.Bad.{BadPresent, BadVersion}
+use Rattle.manifest_v2s2.specs.Bad.{BadVersion}
 use Rattle.manifest_v2s2.specs.Calls.{Reads, NamesFirstBad}
 use Rattle.manifest_v2s2.specs.declared.kind.Kind.{Kind}
 use Rattle.manifest_v2s2.specs.declared.fault.ManifestFault.{ManifestFault}

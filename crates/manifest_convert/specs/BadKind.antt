@@ -4,7 +4,7 @@ use Rattle.serde_json.specs.Data.{Data, object}
 use Rattle.json_tree.specs.declared.path.Step.TheVariants.{Name}
 use Rattle.json_tree.specs.First.{Path, Itself, Nothing, Below, ◌or◌}
 use Rattle.manifest_v2s2.specs.Media.{is_list}
-use Rattle.manifest_v2s2.specs.Bad.{BelowName, BadPresent, BadVersion, BadImage}
+use Rattle.manifest_v2s2.specs.Bad.{BelowName, BadPresent, BadVersion}
 use Rattle.manifest_v2s2.specs.declared.kind.Kind.{Kind}
 use Rattle.manifest_convert.specs.Kinds.{kind_given, is_image}
 

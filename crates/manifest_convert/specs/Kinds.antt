@@ -1,7 +1,7 @@
 -- The kind of manifest that a tree with a content type is (docs/manifests.md, "Kinds").
-use Rattle.std.specs.Prelude.{◌≡◌, ℕ, codes, List, Bool, not, if◌then◌else◌, Option, Some, None, Ok, ⊤}
+use Rattle.std.specs.Prelude.{ℕ, codes, List, Bool, not, if◌then◌else◌, Option, Some, None, Ok, ⊤}
 use Rattle.std.specs.Option.{is_some}
-use Rattle.serde_json.specs.Data.{Data, number, string, object, unsigned}
+use Rattle.serde_json.specs.Data.{Data, string, object}
 use Rattle.serde_json.specs.Find.{get}
 use Rattle.json_tree.specs.declared.path.Step.TheVariants.{Name}
 use Rattle.json_tree.specs.Checked.{Checked, under, both, checked_map}

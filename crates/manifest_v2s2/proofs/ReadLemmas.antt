@@ -1,6 +1,5 @@
 -- From the reading of a tree to the clauses on bytes.
-use Rattle.std.proofs.Common.{◌≡◌, ℕ, List, Result, Ok, Err}
-use Rattle.json_tree.specs.First.{Path}
+use Rattle.std.proofs.Common.{ℕ, List, Result, Ok, Err}
 use Rattle.json_tree.specs.Tree.{tree}
 use Rattle.json_tree.proofs.SortedLemmas.{sorted-tree}
 use Rattle.manifest_v2s2.specs.Bad.{BadImage}

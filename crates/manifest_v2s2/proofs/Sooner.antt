@@ -1,6 +1,6 @@
 -- Of the layers whose size another one contradicts, the first is found by the first size of its digest alone.
-use Rattle.std.proofs.Common.{◌≡◌, ◌⊎◌, inl, inr, ℕ, suc, ◌+◌, ◌<◌, ◌≤◌, codes, Bool, true, false, List, [], ◌∷◌, ◌++◌, length, Option, Some, None, Result, Ok, Err, refl, sym, ap, ◌∙◌, arith, append-nil, subst}
-use Rattle.serde_json.specs.Data.{Data, null, boolean, number, string, array, object, Items, no_items, item, Members}
+use Rattle.std.proofs.Common.{◌≡◌, ◌⊎◌, inl, inr, ℕ, suc, ◌<◌, codes, false, List, [], ◌∷◌, ◌++◌, Option, Some, None, Ok, Err, refl, ap, arith, append-nil}
+use Rattle.serde_json.specs.Data.{Data, null, boolean, number, string, array, object, Items, no_items, item}
 use Rattle.serde_json.specs.Find.{get}
 use Rattle.json_tree.specs.declared.path.Step.{Step}
 use Rattle.json_tree.specs.declared.path.Step.TheVariants.{Name, Place}
@@ -10,7 +10,7 @@ use Rattle.json_tree.specs.Leaf.{whole_of}
 use Rattle.json_tree.proofs.FirstLemmas.{HeadBefore, no_later-by_head, no_later-refl}
 use Rattle.manifest_v2s2.specs.Known.{Differs, first_size, agrees}
 use Rattle.manifest_v2s2.specs.Descriptor.{digest_checked, known_by, known_of}
-use Rattle.manifest_v2s2.specs.Bad.{ItselfIf, BadAgreement, BadDescriptor, BadLayersFrom}
+use Rattle.manifest_v2s2.specs.Bad.{BadAgreement, BadDescriptor, BadLayersFrom}
 use Rattle.manifest_v2s2.specs.declared.sizes.Known.{Known}
 use Rattle.manifest_v2s2.proofs.SizeLemmas.{DiffersFirst, IsSettled, cases_Bool, differs-first, settled-none, settled-more, agrees-not}
 

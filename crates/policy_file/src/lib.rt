@@ -11,6 +11,7 @@ mod read;
 mod refusal;
 mod requirement;
 mod scopes;
+
 pub use fault::{PolicyFault, PolicyKind};
 pub use policy::{Policy, Transport};
 pub use read::read_policy;

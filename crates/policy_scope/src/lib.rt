@@ -4,7 +4,8 @@
 mod choice;
 mod docker;
 mod identity;
-mod lookup;mod wildcards;
+mod lookup;
+mod wildcards;
 
 pub use choice::{Chosen, choose};
 pub use identity::Identity;

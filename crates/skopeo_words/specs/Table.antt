@@ -113,7 +113,7 @@ named_in [] text = None
 named_in (r ∷ more) text = if bytes_eq text r.text then Some r.name else named_in more text
 
 -- the option that is written so
-abbrev pub option_named : List ℕ → Option OptionName
+unfoldable pub option_named : List ℕ → Option OptionName
 option_named text = named_in options text
 
 -- the row of an option
@@ -122,11 +122,11 @@ row_in [] name = row [] name kind.Truth []
 row_in (r ∷ more) name = if same_option name r.name then r else row_in more name
 
 -- what an option takes
-abbrev pub kind_of : OptionName → Kind
+unfoldable pub kind_of : OptionName → Kind
 kind_of name = (row_in options name).kind
 
 -- whether an option is for a command
-abbrev pub is_for : OptionName → CommandName → Bool
+unfoldable pub is_for : OptionName → CommandName → Bool
 is_for name command =
     list_any (λ c. command_row command == command_row c) (row_in options name).commands
 

@@ -14,7 +14,8 @@ mod made;
 mod pairs;
 mod parts;
 mod read;
-mod table;mod value;
+mod table;
+mod value;
 
 pub use command::{Command, CommandName, Common, Format, Passing, SyncEnd};
 pub use fault::{WordsFault, WordsKind};

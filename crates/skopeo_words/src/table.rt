@@ -1,6 +1,6 @@
 // The table of options: how each is written, what it takes, and the commands that it is for.
-ghost use Rattle.std.specs.Prelude.{◌≡◌};
-ghost use Rattle.skopeo_words.specs.Table.{row_of, same_option, option_named, kind_of, is_for, command_named};
+ghost use Rattle.std.specs.Prelude.{◌≡◌, drop};
+ghost use Rattle.skopeo_words.specs.Table.{options, named_in, row_of, same_option, option_named, kind_of, is_for, command_named};
 
 use crate::command::CommandName;
 
@@ -91,27 +91,11 @@ pub fn same_option(a: OptionName, b: OptionName) -> bool
     row_of(a) == row_of(b)
 }
 
-/// The option that is written so behind its dashes.
-pub fn option_named(text: &str) -> Option<OptionName>
-    ensures { result ≡ option_named text.now }
+/// The option that is written so, of those that stand last in the table.
+fn late_option_named(text: &str) -> Option<OptionName>
+    ensures { result ≡ named_in (drop 16 options) text.now }
 {
     match text {
-        "policy" => Some(OptionName::Policy),
-        "registries-conf" => Some(OptionName::RegistriesConf),
-        "location-cache" => Some(OptionName::LocationCache),
-        "insecure-policy" => Some(OptionName::InsecurePolicy),
-        "override-os" => Some(OptionName::OverrideOs),
-        "override-arch" => Some(OptionName::OverrideArch),
-        "override-variant" => Some(OptionName::OverrideVariant),
-        "lanes" => Some(OptionName::Lanes),
-        "all" => Some(OptionName::All),
-        "preserve-digests" => Some(OptionName::PreserveDigests),
-        "remove-signatures" => Some(OptionName::RemoveSignatures),
-        "format" => Some(OptionName::Format),
-        "src-tls-verify" => Some(OptionName::SrcTlsVerify),
-        "dest-tls-verify" => Some(OptionName::DestTlsVerify),
-        "lookaside" => Some(OptionName::Lookaside),
-        "verifier" => Some(OptionName::Verifier),
         "quiet" => Some(OptionName::Quiet),
         "short-names" => Some(OptionName::ShortNames),
         "scoped" => Some(OptionName::Scoped),
@@ -125,7 +109,43 @@ pub fn option_named(text: &str) -> Option<OptionName>
     }
 }
 
+/// The option that is written so, of those that not every command has.
+fn own_option_named(text: &str) -> Option<OptionName>
+    ensures { result ≡ named_in (drop 8 options) text.now }
+{
+    match text {
+        "all" => Some(OptionName::All),
+        "preserve-digests" => Some(OptionName::PreserveDigests),
+        "remove-signatures" => Some(OptionName::RemoveSignatures),
+        "format" => Some(OptionName::Format),
+        "src-tls-verify" => Some(OptionName::SrcTlsVerify),
+        "dest-tls-verify" => Some(OptionName::DestTlsVerify),
+        "lookaside" => Some(OptionName::Lookaside),
+        "verifier" => Some(OptionName::Verifier),
+        _ => late_option_named(text),
+    }
+}
+
+/// The option that is written so behind its dashes.
+#[tactic(auto, unfolding(crate::specs::Table::option_named))]
+pub fn option_named(text: &str) -> Option<OptionName>
+    ensures { result ≡ option_named text.now }
+{
+    match text {
+        "policy" => Some(OptionName::Policy),
+        "registries-conf" => Some(OptionName::RegistriesConf),
+        "location-cache" => Some(OptionName::LocationCache),
+        "insecure-policy" => Some(OptionName::InsecurePolicy),
+        "override-os" => Some(OptionName::OverrideOs),
+        "override-arch" => Some(OptionName::OverrideArch),
+        "override-variant" => Some(OptionName::OverrideVariant),
+        "lanes" => Some(OptionName::Lanes),
+        _ => own_option_named(text),
+    }
+}
+
 /// What an option takes.
+#[tactic(auto, unfolding(crate::specs::Table::kind_of))]
 pub fn kind_of(name: OptionName) -> Kind
     ensures { result ≡ kind_of name }
 {
@@ -159,6 +179,7 @@ pub fn kind_of(name: OptionName) -> Kind
 }
 
 /// Whether an option is for a command.
+#[tactic(auto, unfolding(crate::specs::Table::is_for))]
 pub fn is_for(name: OptionName, command: CommandName) -> bool
     ensures { result ≡ is_for name command }
 {

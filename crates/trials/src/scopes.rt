@@ -51,11 +51,42 @@ fn push_scope(alloc: Global, text: &mut Text, found: &[String], scope: &str) -> 
 fn push_ends(alloc: Global, text: &mut Text, found: &[String], part: &str) -> Result<(), Memory> {
     for (at, _) in part.char_indices() {
         let end = part.get(at..).unwrap_or("");
-        push_scope(alloc, text, found, end)?;
-        push_scope(alloc, text, found, format!(in alloc; "*{end}")?.as_str())?;
-        push_scope(alloc, text, found, format!(in alloc; "*.{end}")?.as_str())?;
+        for front in ["", "*", "*."] {
+            push_scope(
+                alloc,
+                text,
+                found,
+                format!(in alloc; "{front}{end}")?.as_str(),
+            )?;
+        }
     }
     push_scope(alloc, text, found, "")
+}
+
+/// Each front of a text, and where a part of it ends the ends of the front; then the end of the policy.
+fn push_fronts(
+    alloc: Global,
+    text: &mut Text,
+    found: &[String],
+    whole: &str,
+) -> Result<(), Memory> {
+    for (at, c) in whole.char_indices() {
+        let front = whole.get(..at).unwrap_or("");
+        if matches!(c, '/' | ':' | '@') {
+            push_ends(alloc, text, found, front)?;
+        } else {
+            push_scope(alloc, text, found, front)?;
+        }
+    }
+    push_ends(alloc, text, found, whole)?;
+    text.push_str("}}}")
+}
+
+/// A policy that accepts, up to the scopes of a transport.
+fn policy_front(alloc: Global, transport: &str) -> Result<Text, Memory> {
+    Ok(Text::from_string(format!(in alloc;
+        "{{\"default\":[{{\"type\":\"insecureAcceptAnything\"}}],\"transports\":{{\"{transport}\":{{\"|\":[{{\"type\":\"reject\"}}]"
+    )?))
 }
 
 /// A policy that accepts, and refuses each part of a text behind each of three fronts, but for the scopes that were found.
@@ -65,20 +96,25 @@ fn parts_policy(
     whole: &str,
     found: &[String],
 ) -> Result<Text, Memory> {
-    let mut text = Text::from_string(format!(in alloc;
-        "{{\"default\":[{{\"type\":\"insecureAcceptAnything\"}}],\"transports\":{{\"{transport}\":{{\"|\":[{{\"type\":\"reject\"}}]"
-    )?);
-    for (at, c) in whole.char_indices() {
-        let front = whole.get(..at).unwrap_or("");
-        if c == '/' || c == ':' || c == '@' {
-            push_ends(alloc, &mut text, found, front)?;
-        } else {
-            push_scope(alloc, &mut text, found, front)?;
-        }
-    }
-    push_ends(alloc, &mut text, found, whole)?;
-    text.push_str("}}}")?;
+    let mut text = policy_front(alloc, transport)?;
+    push_fronts(alloc, &mut text, found, whole)?;
     Ok(text)
+}
+
+/// The scope that counts for an image, where one does.
+fn scope_of(alloc: Global, policy: &Policy, identity: &Identity) -> Result<Option<String>, Memory> {
+    match choose(policy, identity).scope {
+        Some(scope) => Ok(Some(String::from_str(alloc, scope)?)),
+        None => Ok(None),
+    }
+}
+
+/// The scope that counts by the policy of a text, where one does.
+fn scope_by(alloc: Global, text: &str, identity: &Identity) -> Result<Option<String>, Memory> {
+    match read_policy(alloc, text.as_bytes()) {
+        Ok(policy) => scope_of(alloc, &policy, identity),
+        Err(_) => Ok(None),
+    }
 }
 
 /// The scope that counts where those that were found are left out.
@@ -90,13 +126,7 @@ fn next_scope(
     identity: &Identity,
 ) -> Result<Option<String>, Memory> {
     let text = parts_policy(alloc, transport, whole, found)?;
-    match read_policy(alloc, text.as_str().as_bytes()) {
-        Ok(policy) => match choose(&policy, identity).scope {
-            Some(scope) => Ok(Some(String::from_str(alloc, scope)?)),
-            None => Ok(None),
-        },
-        Err(_) => Ok(None),
-    }
+    scope_by(alloc, text.as_str(), identity)
 }
 
 fn ordered(
