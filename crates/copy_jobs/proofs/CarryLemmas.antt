@@ -1,5 +1,5 @@
 -- A blob that is begun, passed on, compared, and named or given up.
-use Rattle.std.proofs.Common.{◌≡◌, ◌⊎◌, ◌∙◌, ◌<◌, ◌≤◌, ◌^◌, ◌==◌, ◌&&◌, ℕ, List, [], Bool, true, false, cond, Result, Ok, Err, OnOk, OnErr, IfErr, length, take, inl, inr, refl, sym, ap, subst, eqb-true, arith}
+use Rattle.std.proofs.Common.{◌≡◌, ◌⊎◌, ◌∙◌, ◌≤◌, ◌==◌, ℕ, List, [], Bool, true, false, cond, Result, Ok, Err, OnOk, OnErr, IfErr, length, take, inl, inr, refl, sym, ap, subst, eqb-true, arith}
 use Rattle.std.specs.Str.{bytes_eq}
 use Rattle.std.proofs.lemmas.List.{take_all}
 use Rattle.std.proofs.lemmas.Slice.Eq.{bytes_eq-Decides}
@@ -18,7 +18,7 @@ use Rattle.transports.specs.declared.dest.Dest.{Dest}
 use Rattle.transports.specs.declared.blob.Blob.{Blob}
 use Rattle.transports.specs.declared.blob.Upload.{Upload}
 use Rattle.transports.specs.Blobs.{IsWhole, limit_of, is_whole, mismatch_of, judged}
-use Rattle.transports.specs.Given.{BlobEnds, GaveAll, Spares}
+use Rattle.transports.specs.Given.{BlobEnds, GaveAll}
 use Rattle.transports.specs.Has.{HasBlob, KeepsBlobs, IsUntouched}
 use Rattle.transports.specs.StepEnds.{IsDone, FailsBy, FailsFreely}
 use Rattle.transports.specs.Fair.{Works}
@@ -31,7 +31,7 @@ use Rattle.transports.proofs.PieceLaws.{free_unjudged, front_take, given_judged,
 use Rattle.copy_jobs.specs.Lane.{GivesUpPart}
 use Rattle.copy_jobs.specs.declared.pass.Passing.{Passing}
 use Rattle.copy_jobs.specs.Passed.{IsRoute, IsOpened, IsPassing, IsStopped, IsPassed, compared, GivesUp, IsCarried, IsGivenUp, Carries}
-use Rattle.copy_jobs.proofs.PassLemmas.{small_now, spared_then, fails_since}
+use Rattle.copy_jobs.proofs.PassLemmas.{spared_then, fails_since}
 
 -- ---- what a comparison says
 
@@ -40,9 +40,10 @@ compared_whole job bytes is = by (is_whole job bytes) refl is
   where
     by : (b : Bool) → is_whole job bytes ≡ b → ◌≡◌ {A = Result (Unit {0}) Cause} (Ok tt) (cond b (Ok tt) (Err (why.BlobMismatch (mismatch_of job bytes)))) → IsWhole job bytes × (judged job bytes ≡ Ok bytes)
     by true e is =
-        let parts = both (length bytes == job.size) (bytes_eq (digest bytes) job.digest) e in
-        (record { size = eqb-true (length bytes) job.size parts.0; digest = (bytes_eq-Decides (digest bytes) job.digest).0 parts.1 },
-        ap (λ b. cond b (Ok bytes) (Err (why.BlobMismatch (mismatch_of job bytes)))) e)
+        let parts = both (length bytes == job.size) (bytes_eq (digest bytes) job.digest) e in (
+          record { size = eqb-true (length bytes) job.size parts.0; digest = (bytes_eq-Decides (digest bytes) job.digest).0 parts.1 },
+          ap (λ b. cond b (Ok bytes) (Err (why.BlobMismatch (mismatch_of job bytes)))) e,
+        )
     by false e is = let no : ◌≡◌ {A = Result (Unit {0}) Cause} (Ok tt) (Err (why.BlobMismatch (mismatch_of job bytes))) = is in cc
 
 pub compared_other : (job : Job) (bytes : List ℕ) (cause : Cause) → ◌≡◌ {A = Result (Unit {0}) Cause} (Err cause) (compared job bytes) → judged job bytes ≡ Err cause
@@ -66,8 +67,8 @@ module _ (source : Source) (dest : Dest) (job : Job) (entry : LaneTold) (route :
   -- ---- before the first piece
 
   -- it was not opened
-  pub open_stopped : (now : LaneTold) (e : Cause) → FailsBy source job e entry now → is_mismatch e ≡ false → IsUntouched entry now → IsLater entry now → IsGivenUp source dest job e entry now
-  open_stopped now e failed unjudged same later = record {
+  pub open_stopped : (e : Cause) (now : LaneTold) → FailsBy source job e entry now → is_mismatch e ≡ false → IsUntouched entry now → IsLater entry now → IsGivenUp source dest job e entry now
+  open_stopped e now failed unjudged same later = record {
     failed = failed;
     left = left_so source dest job entry now (part_untouched dest job entry now later same) (same_part dest job entry now same.files);
     dropped = never e unjudged;

@@ -5,3 +5,4 @@ pub mod SecureLemmas
 pub mod RunLemmas
 pub mod PassLemmas
 pub mod CarryLemmas
+pub mod EndLemmas

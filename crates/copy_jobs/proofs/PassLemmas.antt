@@ -1,5 +1,5 @@
 -- A blob that is carried piece by piece.
-use Rattle.std.proofs.Common.{◌≡◌, ◌⊎◌, ◌∙◌, ◌+◌, ◌-◌, ◌<◌, ◌≤◌, ◌^◌, ◌++◌, ◌==◌, ◌&&◌, ℕ, min, List, [], ◌∷◌, Bool, true, false, cond, Option, Some, None, Result, Ok, Err, length, take, inl, inr, refl, sym, ap, subst, length-append, arith}
+use Rattle.std.proofs.Common.{◌≡◌, ◌∙◌, ◌+◌, ◌-◌, ◌<◌, ◌≤◌, ◌^◌, ◌++◌, ℕ, min, List, [], ◌∷◌, false, Result, Err, length, take, inl, refl, sym, ap, subst, length-append, arith}
 use Rattle.std.proofs.lemmas.List.{take_all, length-take}
 use Rattle.std.proofs.Math.Seq.{take-append-add}
 use Rattle.skopeo_outside.specs.LaneTold.{LaneTold, IsLater}
@@ -13,11 +13,11 @@ use Rattle.transports.specs.declared.dest.Dest.{Dest}
 use Rattle.transports.specs.declared.blob.Blob.{Blob}
 use Rattle.transports.specs.declared.blob.Upload.{Upload}
 use Rattle.transports.specs.Blobs.{limit_of}
-use Rattle.transports.specs.Given.{Spares, BlobEnds, GaveFront, GaveAll, HasGiven}
+use Rattle.transports.specs.Given.{Spares, GaveFront, GaveAll, HasGiven}
 use Rattle.transports.specs.Has.{IsUntouched}
 use Rattle.transports.specs.StepEnds.{FailsBy, FailsFreely}
 use Rattle.transports.specs.Uploads.{Holds, TookFront, TookSome, OnlyPart, is_mismatch}
-use Rattle.transports.proofs.GivenLemmas.{spares_then, only_spares, blob_earlier, front_later, given_later}
+use Rattle.transports.proofs.GivenLemmas.{only_spares, blob_earlier, front_later, given_later}
 use Rattle.transports.proofs.PieceLaws.{take_take, free_unjudged, front_take, all_later, part_then, part_untouched, part_at_dest, took_still, holds_still, left_front}
 use Rattle.copy_jobs.specs.declared.pass.Passing.{Passing}
 use Rattle.copy_jobs.specs.Passed.{IsRoute, IsPassing, IsStopped, IsPassedOn, PassesPiece, IsPassed}
@@ -99,7 +99,7 @@ module _ (source : Source) (dest : Dest) (job : Job) (entry : LaneTold) (route :
       add_stopped e few within took free =
           let next_front : GaveFront source job entry b (r.given ++ take count into) = front_later source job entry m b (r.given ++ take count into) next.front (spared_then m b read_later part) in
           let bytes : take job.size r.given ++ take took.count (take fits into) ≡ take (length r.given + min took.count fits) (r.given ++ take count into) =
-              ap (λ l. l ++ take took.count (take fits into)) (whole few) ∙ cut_short r.given into took.count count fits within in
+          ap (λ l. l ++ take took.count (take fits into)) (whole few) ∙ cut_short r.given into took.count count fits within in
           record {
             failed = fails_since m b e read_only read_later (inl free);
             unjudged = free_unjudged e free.free;

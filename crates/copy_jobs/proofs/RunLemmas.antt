@@ -1,5 +1,5 @@
 -- From receipts to "each job was done on some lane", over lanes that were lent and given back.
-use Rattle.std.proofs.Common.{◌≡◌, ◌≢◌, ◌⊎◌, ◌∙◌, ◌<◌, ◌≤◌, ◌+◌, List, [], ◌∷◌, ◌++◌, ℕ, zero, suc, length, map, All, Contains, Bool, true, false, cond, ◌==◌, Option, Some, None, Result, Ok, Err, IfOk, IfErr, OnOk, get_or, slice_get, inl, inr, refl, sym, ap, subst, append_assoc, length-append, arith}
+use Rattle.std.proofs.Common.{◌≡◌, ◌≢◌, ◌⊎◌, ◌∙◌, ◌<◌, ◌≤◌, ◌+◌, List, [], ◌∷◌, ◌++◌, ℕ, zero, suc, length, map, All, Contains, Bool, true, false, cond, ◌==◌, Option, Some, None, Result, Ok, Err, IfOk, OnOk, get_or, slice_get, inl, inr, refl, sym, ap, subst, length-append, arith}
 use Rattle.std.specs.Str.{bytes_eq}
 use Rattle.std.proofs.lemmas.Slice.Eq.{bytes_eq-Decides}
 use Rattle.std.proofs.lemmas.Option.{get_or_from_slice_get, slice_get-get_or, slice_get_within}
@@ -13,8 +13,7 @@ use Rattle.copy_workers.specs.declared.cause.Cause.TheVariants as why
 use Rattle.copy_workers.specs.Receipts.{Issued}
 use Rattle.copy_workers.specs.Jobs.{AreJobs}
 use Rattle.copy_workers.specs.Asked.{answers_to}
-use Rattle.copy_workers.specs.Kept.{EachKeeps}
-use Rattle.copy_workers.specs.Secured.{AreLanes, AreSecured, IsSecuredBy, Succeeded, IsLeastFault, IsJobFault}
+use Rattle.copy_workers.specs.Secured.{AreLanes, IsLeastFault, IsJobFault}
 use Rattle.transports.specs.declared.source.Source.{Source}
 use Rattle.transports.specs.declared.dest.Dest.{Dest}
 use Rattle.transports.specs.declared.refusal.Refusal.{Refusal}
@@ -253,8 +252,8 @@ run_adds : (source : Source) (dest : Dest) (jobs : List Job) (count : ℕ) (old 
 run_adds source dest jobs count old new receipts r =
     each_lane source dest jobs count old new (Ok receipts) r (λ place a b. AddsOnly dest (IsOfJobs jobs) a b)
     (λ k on e o. subst (λ x. AddsOnly dest (IsOfJobs jobs) x on.lane) o.origin (subst (λ d. AddsOnly d (IsOfJobs jobs) on.origin on.lane) o.dest_is
-        (adds_wider on.dest (WasAsked on.asked) (IsOfJobs jobs) (asked_of source dest jobs count old new (Ok receipts) r k on e) on.origin on.lane
-        ((sound_at source dest jobs count old new (Ok receipts) r k on e).adds (no_failure jobs on.failure (quiet k on e) (other_calm source dest jobs count old new (Ok receipts) r k on e))))))
+    (adds_wider on.dest (WasAsked on.asked) (IsOfJobs jobs) (asked_of source dest jobs count old new (Ok receipts) r k on e) on.origin on.lane
+    ((sound_at source dest jobs count old new (Ok receipts) r k on e).adds (no_failure jobs on.failure (quiet k on e) (other_calm source dest jobs count old new (Ok receipts) r k on e))))))
     (λ k a. adds_same dest (IsOfJobs jobs) a)
   where
     quiet : (k : ℕ) (on : LaneState) → slice_get r.ends k ≡ Some on → All (λ j. fault_of on.failure j ≡ None) jobs

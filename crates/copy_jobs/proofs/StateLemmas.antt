@@ -4,7 +4,6 @@ use Rattle.std.specs.Str.{bytes_eq}
 use Rattle.std.proofs.lemmas.Bool.{eq-eqb, eqb-true}
 use Rattle.std.proofs.lemmas.Slice.Eq.{bytes_eq-Decides}
 use Rattle.skopeo_outside.specs.LaneTold.{LaneTold, IsLater}
-use Rattle.skopeo_outside.specs.Outside.{Rose}
 use Rattle.digest_reader.specs.declared.job.Job.{Job}
 use Rattle.copy_workers.specs.declared.asked.LaneAnswer.{LaneAnswer}
 use Rattle.copy_workers.specs.Asked.{Answered, Adds, answers_to}
@@ -14,7 +13,7 @@ use Rattle.copy_workers.specs.Lanes.{Keeps}
 use Rattle.transports.specs.declared.source.Source.{Source}
 use Rattle.transports.specs.declared.dest.Dest.{Dest}
 use Rattle.transports.specs.Courses.{blames_earlier}
-use Rattle.transports.specs.StepEnds.{IsDone, FailsBy, FailsFreely}
+use Rattle.transports.specs.StepEnds.{IsDone, FailsBy}
 use Rattle.transports.specs.Has.{HasBlob, KeepsBlobs, IsReported}
 use Rattle.transports.specs.Given.{BlobEnds}
 use Rattle.transports.specs.Fair.{Works}

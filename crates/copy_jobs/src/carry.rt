@@ -92,9 +92,7 @@ fn end_blob<W: Wire, F: Files>(
         digester,
     } = passing;
     match compare(route.job, digester) {
-        Ok(()) => route
-            .dest
-            .keep_blob(route.alloc, lane, route.job, upload),
+        Ok(()) => route.dest.keep_blob(route.alloc, lane, route.job, upload),
         Err(cause) => Err(give_up(lane, route, upload, cause)),
     }
 }
@@ -121,6 +119,22 @@ fn carry_open<W: Wire, F: Files>(
     };
     pass_all(lane, route, &mut passing, buffer)?;
     end_blob(lane, route, passing)
+}
+
+/// Opens a blob, and carries it.
+fn open_and_carry<W: Wire, F: Files>(
+    lane: &mut Lane<W, F>,
+    route: &Route<'_, W, F>,
+    buffer: &mut [u8],
+) -> Result<(), Cause>
+    requires route { IsRoute route.now.source.now route.now.dest.now route.now.job.now route.now.entry.value }
+    requires room { 0 < length buffer.old }
+    requires entry { route.now.entry.value ≡ lane.old }
+    ensures carried { let r = route.now in
+        Carries r.source.now r.dest.now r.job.now r.entry.value lane.new result }
+{
+    let blob = route.source.open_blob(route.alloc, lane, route.job)?;
+    carry_open(lane, route, blob, buffer)
 }
 
 /// Carries one blob piece by piece through the buffer, which is made where it has no room: the blob is named only where all
@@ -153,6 +167,5 @@ pub fn carry_blob<W: Wire, F: Files>(
         job,
         entry: Snapshot::of(lane),
     };
-    let blob = source.open_blob(alloc, lane, job)?;
-    carry_open(lane, &route, blob, buffer)
+    open_and_carry(lane, &route, buffer)
 }

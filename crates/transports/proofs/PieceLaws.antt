@@ -1,5 +1,5 @@
 -- The laws of blobs that are given and taken piece by piece.
-use Rattle.std.proofs.Common.{◌≡◌, ◌≢◌, ◌⊎◌, ◌∙◌, ◌+◌, ◌<◌, ◌≤◌, ◌^◌, ◌++◌, ℕ, zero, suc, min, List, [], ◌∷◌, Bool, true, false, Option, Some, None, Result, Ok, Err, IfSome, length, take, inl, inr, refl, sym, ap, subst, arith}
+use Rattle.std.proofs.Common.{◌≡◌, ◌≢◌, ◌⊎◌, ◌∙◌, ◌<◌, ◌≤◌, ◌^◌, ℕ, zero, suc, min, List, [], ◌∷◌, true, false, Option, Some, None, Result, Err, IfSome, length, take, inl, inr, refl, sym, ap, subst, arith}
 use Rattle.std.proofs.lemmas.List.{take_all, length-take}
 use Rattle.skopeo_outside.specs.Tree.{Tree, file_at}
 use Rattle.skopeo_outside.specs.Outside.{Told}
@@ -9,7 +9,7 @@ use Rattle.skopeo_outside.proofs.Trees.{path_cases}
 use Rattle.image_ref.specs.Digest.{IsDigest}
 use Rattle.digest_reader.specs.declared.job.Job.{Job}
 use Rattle.layouts.specs.Paths.{IsIn, IsManifestPath, blob_path, blob_part}
-use Rattle.layouts.specs.Trees.{OnlyAt, OnlyIn, SameOrGone}
+use Rattle.layouts.specs.Trees.{OnlyAt, OnlyIn}
 use Rattle.layouts.proofs.NameLemmas.{blob_in, part_in, part_not_manifest, blob_not_part}
 use Rattle.layouts.proofs.FolderLemmas.{at_in}
 use Rattle.copy_workers.specs.declared.cause.Cause.{Cause}

@@ -1,4 +1,4 @@
-use Rattle.std.proofs.Common.{rules, ◌≡◌, ◌+◌, length, sym, subst, arith}
+use Rattle.std.proofs.Common.{arith}
 use Rattle.copy_jobs.proofs.LentLemmas.{lent_count, lent_length}
 use Rattle.copy_jobs.proofs.RunLemmas.{fresh_lanes}
 use Rattle.copy_jobs.proofs.secure.run_lent.Goals as goal
