@@ -189,16 +189,18 @@ holds_still (Folder path) job u a b c bytes holds same later = record {
   took = took_still (Folder path) job a b c bytes holds.took same.files;
   held = subst (λ n. IfSome c.files.tree (λ t. file_at t (blob_part path job.digest n) ≡ Some bytes)) (sym later.number)
       (subst (λ t. IfSome t (λ t. file_at t (blob_part path job.digest b.number) ≡ Some bytes)) (sym same.files) holds.held);
+  number = later.number ∙ holds.number;
 }
 
 -- and so since an earlier state, from which other things were read
 pub holds_since : (dest : Dest) (job : Job) (u : Upload) (a b c : LaneTold) (bytes : List ℕ) → IsUntouched a b → IsLater a b → Holds dest job u b c bytes → Holds dest job u a c bytes
 unfolding TookFront
 holds_since (Folder path) job u a b c bytes same later holds = record {
-  of_job = subst (λ n. IsUploadOf (Folder path) job n u) later.number holds.of_job;
+  of_job = holds.of_job;
   took = subst (λ n. Told (IsPartHeld (blob_part path job.digest n) bytes) a.files.tree c.files.tree) later.number
       (subst (λ t. Told (IsPartHeld (blob_part path job.digest b.number) bytes) t c.files.tree) same.files holds.took);
   held = holds.held;
+  number = holds.number ∙ later.number;
 }
 
 -- ---- what is left

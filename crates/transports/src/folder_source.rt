@@ -1,5 +1,5 @@
 // A folder of the transport `dir` as a source.
-ghost use Rattle.std.specs.Prelude.{◌≡◌, ◌+◌, ◌<◌, ◌≤◌, ◌++◌, ◌^◌, [], List, ℕ, Ok, IfOk, IfErr, IfSome, length, take};
+ghost use Rattle.std.specs.Prelude.{◌≡◌, ◌+◌, ◌<◌, ◌≤◌, ◌++◌, ◌^◌, [], List, ℕ, Ok, IfOk, IfErr, IfSome, false, length, take};
 ghost use Rattle.std.specs.Option.{option_map};
 ghost use Rattle.skopeo_outside.specs.Tree.{file_at};
 ghost use Rattle.skopeo_outside.specs.Folders.{joined};
@@ -15,6 +15,7 @@ ghost use Rattle.transports.specs.Courses.{lane_course};
 ghost use Rattle.transports.specs.StepEnds.{reading, FailsBy};
 ghost use Rattle.transports.specs.Given.{Spares, ManifestEnds, SignaturesEnd, GaveAll, HasGiven, path_of, count_of, manifest_in};
 ghost use Rattle.transports.specs.Has.{IsUntouched};
+ghost use Rattle.transports.specs.Uploads.{is_mismatch};
 
 use crate::blob::Blob;
 use crate::refusal::Refusal;
@@ -106,6 +107,7 @@ pub(crate) fn open_blob<W: Wire, F: Files>(
 ) -> Result<Blob, Cause>
     ensures opened { IfOk result (λ blob. HasGiven (Folder folder.now) job.now blob lane.old lane.new []) }
     ensures failed { IfErr result (λ e. FailsBy (Folder folder.now) job.now e lane.old lane.new) }
+    ensures unjudged { IfErr result (λ e. is_mismatch e ≡ false) }
     ensures untouched { IsUntouched lane.old lane.new }
     ensures spares { Spares (Folder folder.now) lane.old lane.new }
     ensures later { IsLater lane.old lane.new }
@@ -164,6 +166,7 @@ pub(crate) fn next_piece<W: Wire, F: Files>(
         → IfOk result (λ count. count ≡ 0 → GaveAll source job.now entry lane.new given) }
     ensures failed { (source : Source) (entry : LaneTold) (given : List ℕ) → HasGiven source job.now blob.old entry lane.old given
         → IfErr result (λ e. FailsBy source job.now e lane.old lane.new) }
+    ensures unjudged { IfErr result (λ e. is_mismatch e ≡ false) }
     ensures untouched { IsUntouched lane.old lane.new }
     ensures spares { (source : Source) → Spares source lane.old lane.new }
     ensures later { IsLater lane.old lane.new }

@@ -1,5 +1,6 @@
 // What a stopped call of the files is.
-ghost use Rattle.std.specs.Prelude.{◌≡◌};
+ghost use Rattle.std.specs.Prelude.{◌≡◌, false};
+ghost use Rattle.transports.specs.Uploads.{is_mismatch};
 ghost use Rattle.transports.specs.Calls.{by_stop, cause_by_stop, by_fault, cause_by_fault, IsRefused, IsRefusedThere};
 
 use crate::refusal::Refusal;
@@ -21,6 +22,7 @@ pub(crate) fn refused_by(stop: Stop, faults: u64) -> Refusal
 /// The cause that a stopped call of the files is.
 pub(crate) fn caused_by(stop: Stop, faults: u64) -> Cause
     ensures is { result ≡ cause_by_stop stop faults }
+    ensures unjudged { is_mismatch result ≡ false }
 {
     match stop {
         Stop::Fault => Cause::Files(faults),
