@@ -13,6 +13,7 @@ use Rattle.copy_workers.specs.declared.cause.Cause.TheVariants as why
 use Rattle.copy_workers.specs.Receipts.{Issued}
 use Rattle.copy_workers.specs.Jobs.{AreJobs}
 use Rattle.copy_workers.specs.Asked.{answers_to}
+use Rattle.copy_workers.specs.Kept.{KeepsAll}
 use Rattle.copy_workers.specs.Secured.{AreLanes, IsLeastFault, IsJobFault}
 use Rattle.transports.specs.declared.source.Source.{Source}
 use Rattle.transports.specs.declared.dest.Dest.{Dest}
@@ -122,25 +123,31 @@ map_fresh source dest (b ∷ ls) [] fresh = absurd fresh
 map_fresh source dest (b ∷ ls) (t ∷ ss) fresh = ap (λ x. x ∷ map (λ (s : LaneState). s.lane) ss) (ap (λ (l : LaneState). l.lane) fresh.0.is) ∙ ap (λ x. b ∷ x) (map_fresh source dest ls ss fresh.1)
 
 module _ (source : Source) (dest : Dest) (jobs : List Job) (count : ℕ) (old new : List LaneTold) (outcome : Result (List Issued) JobFault) (r : HasRun source dest jobs count old new outcome) where
-  start_at : (k : ℕ) (on : LaneState) → slice_get r.ends k ≡ Some on → slice_get r.starts k ≡ Some (get_or r.starts k on)
-  start_at k on e = let lt = slice_get_within r.ends k on e in let n = r.same in slice_get-get_or r.starts k on (omega arith)
+  -- the lane of which one was made that was lent, and what it kept since
+  made_at : (k : ℕ) (on : LaneState) → slice_get r.ends k ≡ Some on → (a : LaneTold) × (slice_get r.lent.first k ≡ Some a) × IsFresh source dest a (get_or r.starts k on)
+  made_at k on e =
+      let lt = slice_get_within r.ends k on e in
+      let n = r.same in
+      fresh_at source dest r.lent.first r.starts k (get_or r.starts k on) r.lent.fresh (slice_get-get_or r.starts k on (omega arith))
+
+  kept_at : (k : ℕ) (on : LaneState) → slice_get r.ends k ≡ Some on → KeepsAll lane_lore jobs (get_or r.starts k on) on
+  kept_at k on e =
+      let lt = slice_get_within r.ends k on e in
+      let n = r.same in
+      subst (KeepsAll lane_lore jobs (get_or r.starts k on)) (get_or_from_slice_get r.ends k on on e) (r.kept k on (omega arith))
 
   one_at : (k : ℕ) (on : LaneState) → slice_get r.ends k ≡ Some on → IsOne source dest old new k on
   one_at k on e =
-      let start = get_or r.starts k on in
-      let lt = slice_get_within r.ends k on e in
-      let n = r.same in
-      let f = fresh_at source dest r.lent.first r.starts k start r.lent.fresh (start_at k on e) in
-      let is : get_or r.ends k on ≡ on = get_or_from_slice_get r.ends k on on e in
-      let same : (lane_lore).origin on ≡ (lane_lore).origin start = ap (λ (l : LaneState). (lane_lore).origin l) (sym is) ∙ (r.kept k on (omega arith)).others.origin in
-      let first : (lane_lore).origin start ≡ (f.0, source, dest) = ap (λ (l : LaneState). (l.origin, l.source, l.dest)) f.2.is in
+      let made = made_at k on e in
+      let was : (lane_lore).origin (get_or r.starts k on) ≡ (made.0, source, dest) = ap (λ (l : LaneState). (l.origin, l.source, l.dest)) made.2.is in
+      let same = (kept_at k on e).others.origin ∙ was in
       record {
-        before = f.0;
-        was = subst (λ l. slice_get l k ≡ Some f.0) (sym r.lent.was) (at_front r.lent.first r.rest k f.0 f.1);
+        before = made.0;
+        was = subst (λ l. slice_get l k ≡ Some made.0) (sym r.lent.was) (at_front r.lent.first r.rest k made.0 made.1);
         now = subst (λ l. slice_get l k ≡ Some on.lane) (sym r.back) (at_front (map (λ (s : LaneState). s.lane) r.ends) r.rest k on.lane (at_map (λ (s : LaneState). s.lane) r.ends k on e));
-        origin = ap (λ p. p.0) (same ∙ first);
-        source_is = ap (λ p. p.1) (same ∙ first);
-        dest_is = ap (λ p. p.2) (same ∙ first);
+        origin = ap (λ p. p.0) same;
+        source_is = ap (λ p. p.1) same;
+        dest_is = ap (λ p. p.2) same;
       }
 
   sound_at : (k : ℕ) (on : LaneState) → slice_get r.ends k ≡ Some on → IsSound on
@@ -197,22 +204,10 @@ module _ (source : Source) (dest : Dest) (jobs : List Job) (count : ℕ) (old ne
 
   -- of jobs of other digests a lane tells at the end what it told when it was made: nothing
   other_calm : (k : ℕ) (on : LaneState) → slice_get r.ends k ≡ Some on → (j : Job) → All (λ i. j.digest ≢ i.digest) jobs → fault_of on.failure j ≡ None
-  other_calm k on e j none =
-      let start = get_or r.starts k on in
-      let lt = slice_get_within r.ends k on e in
-      let n = r.same in
-      let f = fresh_at source dest r.lent.first r.starts k start r.lent.fresh (start_at k on e) in
-      let is : get_or r.ends k on ≡ on = get_or_from_slice_get r.ends k on on e in
-      ap (λ (l : LaneState). fault_of l.failure j) (sym is) ∙ (r.kept k on (omega arith)).others.fails j none ∙ ap (λ (l : LaneState). fault_of l.failure j) f.2.is
+  other_calm k on e j none = (kept_at k on e).others.fails j none ∙ ap (λ (l : LaneState). fault_of l.failure j) (made_at k on e).2.is
 
   other_unasked : (k : ℕ) (on : LaneState) → slice_get r.ends k ≡ Some on → (j : Job) → All (λ i. j.digest ≢ i.digest) jobs → answers_to on.asked j.digest ≡ []
-  other_unasked k on e j none =
-      let start = get_or r.starts k on in
-      let lt = slice_get_within r.ends k on e in
-      let n = r.same in
-      let f = fresh_at source dest r.lent.first r.starts k start r.lent.fresh (start_at k on e) in
-      let is : get_or r.ends k on ≡ on = get_or_from_slice_get r.ends k on on e in
-      ap (λ (l : LaneState). answers_to l.asked j.digest) (sym is) ∙ (r.kept k on (omega arith)).others.asks j none ∙ f.2.unasked.none j.digest
+  other_unasked k on e j none = (kept_at k on e).others.asks j none ∙ (made_at k on e).2.unasked.none j.digest
 
   -- a lane was asked for none but the jobs
   asked_of : (k : ℕ) (on : LaneState) → slice_get r.ends k ≡ Some on → (d : List ℕ) → WasAsked on.asked d → IsOfJobs jobs d

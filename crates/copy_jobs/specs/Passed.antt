@@ -57,6 +57,7 @@ pub record IsPassedOn (source : Source) (dest : Dest) (job : Job) (p : Passing) 
   pub passing : IsPassing source dest job p entry now (at + count)
   pub last : count ≡ 0 → GaveAll source job entry now passing.given
 
+-- one more piece, by the answer: it was passed on, or that stopped
 abbrev pub PassesPiece : Source → Dest → Job → Passing → LaneTold → LaneTold → ℕ → ℕ → Result ℕ Cause → Type 0
 PassesPiece source dest job p entry now at room (Ok count) = IsPassedOn source dest job p entry now at room count
 PassesPiece source dest job p entry now at room (Err e) = IsStopped source dest job e entry now
@@ -68,6 +69,7 @@ pub record IsPassed (source : Source) (dest : Dest) (job : Job) (p : Passing) (e
   pub few : at ≤ limit_of job
   pub all : GaveAll source job entry now passing.given ⊎ (limit_of job ≤ at)
 
+-- all pieces, by the answer
 abbrev pub PassesAll : Source → Dest → Job → Passing → LaneTold → LaneTold → Result ⊤ Cause → Type 0
 PassesAll source dest job p entry now (Ok done) = IsPassed source dest job p entry now
 PassesAll source dest job p entry now (Err e) = IsStopped source dest job e entry now
@@ -105,6 +107,7 @@ pub record IsGivenUp (source : Source) (dest : Dest) (job : Job) (e : Cause) (ol
   pub only : OnlyPart dest job old new
   pub later : IsLater old new
 
+-- what became of a job's blob, by the answer
 abbrev pub Carries : Source → Dest → Job → LaneTold → LaneTold → Result ⊤ Cause → Type 0
 Carries source dest job old new (Ok done) = IsCarried source dest job old new
 Carries source dest job old new (Err e) = IsGivenUp source dest job e old new

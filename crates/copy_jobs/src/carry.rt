@@ -1,14 +1,13 @@
 // One blob, from a source to a destination.
 ghost use Rattle.std.specs.Prelude.{◌≡◌, ◌<◌, ℕ, List, true, OnOk, OnErr, IfErr, length, vec_len};
-ghost use Rattle.skopeo_outside.specs.LaneTold.{LaneTold, IsLater};
-ghost use Rattle.skopeo_outside.specs.Outside.{Rose};
+ghost use Rattle.skopeo_outside.specs.LaneTold.{LaneTold};
 ghost use Rattle.digest_reader.specs.Fed.{HasFed};
 ghost use Rattle.transports.specs.Places.{AreApart};
-ghost use Rattle.transports.specs.StepEnds.{IsDone, FailsBy, FailsFreely};
+ghost use Rattle.transports.specs.StepEnds.{IsDone, FailsBy};
 ghost use Rattle.transports.specs.Has.{KeepsBlobs};
 ghost use Rattle.transports.specs.Fair.{Works};
 ghost use Rattle.transports.specs.Named.{AddsOnly};
-ghost use Rattle.transports.specs.Uploads.{Holds, OnlyPart, LeavesNoPart, IsLeft, is_mismatch};
+ghost use Rattle.transports.specs.Uploads.{Holds, IsLeft, is_mismatch};
 ghost use Rattle.copy_jobs.specs.Lane.{GivesUpPart};
 ghost use Rattle.copy_jobs.specs.Passed.{IsRoute, IsOpened, IsPassed, GivesUp, Carries, compared, unless_files};
 

@@ -1,5 +1,5 @@
 // A blob that is passed on piece by piece: each is read, fed to a digester, and added at the destination.
-ghost use Rattle.std.specs.Prelude.{◌≡◌, ◌+◌, ◌<◌, ◌≤◌, ◌++◌, ◌^◌, ℕ, List, OnOk, OnErr, IfErr, length, take};
+ghost use Rattle.std.specs.Prelude.{◌≡◌, ◌+◌, ◌<◌, ◌≤◌, ◌++◌, ℕ, List, OnOk, OnErr, IfErr, length};
 ghost use Rattle.skopeo_outside.specs.LaneTold.{LaneTold, IsLater};
 ghost use Rattle.transports.specs.Blobs.{limit_of};
 ghost use Rattle.transports.specs.StepEnds.{FailsFreely};
