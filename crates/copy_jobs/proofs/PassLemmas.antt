@@ -18,7 +18,8 @@ use Rattle.transports.specs.Has.{IsUntouched}
 use Rattle.transports.specs.StepEnds.{FailsBy, FailsFreely}
 use Rattle.transports.specs.Uploads.{Holds, TookFront, TookSome, OnlyPart, is_mismatch}
 use Rattle.transports.proofs.GivenLemmas.{only_spares, blob_earlier, front_later, given_later}
-use Rattle.transports.proofs.PieceLaws.{take_take, free_unjudged, front_take, all_later, part_then, part_untouched, part_at_dest, took_still, holds_still, left_front}
+use Rattle.transports.proofs.PieceLaws.{take_take, free_unjudged, front_take, all_later, part_then, part_untouched, part_at_dest, took_still, left_front}
+use Rattle.transports.proofs.UploadLemmas.{holds_later}
 use Rattle.copy_jobs.specs.declared.pass.Passing.{Passing}
 use Rattle.copy_jobs.specs.Passed.{IsRoute, IsPassing, IsStopped, IsPassedOn, PassesPiece, IsPassed}
 use Rattle.copy_jobs.proofs.StateLemmas.{fails_earlier}
@@ -82,7 +83,7 @@ module _ (source : Source) (dest : Dest) (job : Job) (entry : LaneTold) (route :
     }
 
     pub read_holds : Holds dest job p.upload entry m (take job.size r.given)
-    read_holds = holds_still dest job p.upload entry a m (take job.size r.given) r.holds same later
+    read_holds = holds_later dest job p.upload entry a m (take job.size r.given) r.holds same later
 
     module _ (blob : Blob) (into : List ℕ) (count fits : ℕ) (next : HasGiven source job blob entry m (r.given ++ take count into)) (b : LaneTold) (part : OnlyPart dest job m b) (added : IsLater m b) where
       whole : at ≤ job.size → take job.size r.given ≡ r.given

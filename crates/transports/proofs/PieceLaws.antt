@@ -26,7 +26,7 @@ use Rattle.transports.specs.StepEnds.{FailsBy}
 use Rattle.transports.specs.Has.{StandsIn, HasBlob, KeepsBlobs, IsUntouched, OnlyAtDest}
 use Rattle.transports.specs.Writes.{KeepsManifests, WritesNone}
 use Rattle.transports.specs.Fair.{IsFair, IsFairOn, Works}
-use Rattle.transports.specs.Uploads.{IsUploadOf, IsPartHeld, TookFront, HeldAt, OnlyPart, LeavesNoPart, SamePart, Holds, IsLeft, is_mismatch}
+use Rattle.transports.specs.Uploads.{IsPartHeld, TookFront, OnlyPart, LeavesNoPart, SamePart, Holds, IsLeft, is_mismatch}
 
 -- ---- jobs of one digest and size, whatever their numbers
 
@@ -181,18 +181,7 @@ pub took_still : (dest : Dest) (job : Job) (a b c : LaneTold) (bytes : List ℕ)
 unfolding TookFront
 took_still (Folder path) job a b c bytes took same = subst (λ t. Told (IsPartHeld (blob_part path job.digest a.number) bytes) a.files.tree t) (sym same) took
 
--- what an upload holds it holds while other things are read
-pub holds_still : (dest : Dest) (job : Job) (u : Upload) (a b c : LaneTold) (bytes : List ℕ) → Holds dest job u a b bytes → IsUntouched b c → IsLater b c → Holds dest job u a c bytes
-unfolding HeldAt
-holds_still (Folder path) job u a b c bytes holds same later = record {
-  of_job = holds.of_job;
-  took = took_still (Folder path) job a b c bytes holds.took same.files;
-  held = subst (λ n. IfSome c.files.tree (λ t. file_at t (blob_part path job.digest n) ≡ Some bytes)) (sym later.number)
-      (subst (λ t. IfSome t (λ t. file_at t (blob_part path job.digest b.number) ≡ Some bytes)) (sym same.files) holds.held);
-  number = later.number ∙ holds.number;
-}
-
--- and so since an earlier state, from which other things were read
+-- what an upload holds it holds since an earlier state, from which other things were read
 pub holds_since : (dest : Dest) (job : Job) (u : Upload) (a b c : LaneTold) (bytes : List ℕ) → IsUntouched a b → IsLater a b → Holds dest job u b c bytes → Holds dest job u a c bytes
 unfolding TookFront
 holds_since (Folder path) job u a b c bytes same later holds = record {
