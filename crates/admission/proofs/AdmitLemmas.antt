@@ -1,5 +1,5 @@
 -- What comes of an image that was judged.
-use Rattle.std.proofs.Common.{◌≡◌, List, ℕ, Bool, true, false, ◌-◌, ◌^◌, ◌<◌, Result, Ok, Err, length, refl, sym, ap, subst, ◌∙◌}
+use Rattle.std.proofs.Common.{◌≡◌, List, ℕ, Bool, true, false, ◌-◌, ◌^◌, ◌<◌, Result, Ok, Err, length, sym, ap, ◌∙◌}
 use Rattle.std.specs.Prelude.{⊤}
 use Rattle.skopeo_outside.specs.Steps.{Says, SaysBy}
 use Rattle.skopeo_outside.specs.declared.words.Fetched.{Fetched}
@@ -16,7 +16,7 @@ use Rattle.transports.specs.declared.refusal.Refusal.{Refusal}
 use Rattle.transports.specs.declared.refusal.Refusal.TheVariants as refusal
 use Rattle.transports.specs.Courses.{lane_course}
 use Rattle.transports.specs.Refusals.{is_free}
-use Rattle.admission.specs.Admission.{Admission, IsAdmitted, HasJobs, IsSound, judged_by, where_judged, admitted_of}
+use Rattle.admission.specs.Admission.{Admission, IsSound, judged_by, where_judged, admitted_of}
 use Rattle.admission.proofs.GateLemmas.{judged_holds}
 use Rattle.admission.proofs.JobLemmas.{are_jobs, few_jobs}
 

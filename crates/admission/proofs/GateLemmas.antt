@@ -1,5 +1,5 @@
 -- A list of requirements, one after the other.
-use Rattle.std.proofs.Common.{◌≡◌, List, [], ◌∷◌, ℕ, zero, ◌+◌, suc, ◌<◌, length, drop, get_or, All, Option, Ok, Err, sym, ap, ◌∙◌, arith}
+use Rattle.std.proofs.Common.{◌≡◌, List, [], ◌∷◌, ℕ, zero, ◌+◌, suc, ◌<◌, length, drop, get_or, All, Option, Ok, sym, ap, ◌∙◌, arith}
 use Rattle.std.proofs.Math.Seq.{drop-cons}
 use Rattle.std.proofs.lemmas.List.Elements.{All-nil}
 use Rattle.policy_file.specs.declared.requirement.Requirement.{Requirement}

@@ -1,5 +1,5 @@
 // A folder of the transport `dir` as a source.
-ghost use Rattle.std.specs.Prelude.{◌≡◌, ◌+◌, ◌<◌, ◌≤◌, ◌++◌, ◌^◌, [], List, ℕ, Ok, IfOk, IfErr, IfSome, false, length, take};
+ghost use Rattle.std.specs.Prelude.{◌≡◌, ◌+◌, ◌<◌, ◌≤◌, ◌++◌, ◌^◌, [], List, ℕ, false, Ok, IfOk, IfErr, IfSome, length, take};
 ghost use Rattle.std.specs.Option.{option_map};
 ghost use Rattle.skopeo_outside.specs.Tree.{file_at};
 ghost use Rattle.skopeo_outside.specs.Folders.{joined};

@@ -1,7 +1,7 @@
 // What a stopped call of the files is.
 ghost use Rattle.std.specs.Prelude.{◌≡◌, false};
-ghost use Rattle.transports.specs.Uploads.{is_mismatch};
 ghost use Rattle.transports.specs.Calls.{by_stop, cause_by_stop, by_fault, cause_by_fault, IsRefused, IsRefusedThere};
+ghost use Rattle.transports.specs.Uploads.{is_mismatch};
 
 use crate::refusal::Refusal;
 use copy_workers::Cause;

@@ -1,7 +1,5 @@
-use Rattle.std.proofs.Common.{rules, ◌≡◌, Ok, ℕ, ◌-◌, ◌^◌, ◌<◌, length, arith}
-use Rattle.json_tree.specs.Tree.{tree}
+use Rattle.std.proofs.Common.{rules, ◌≡◌, Ok, ◌-◌, ◌^◌, ◌<◌, length}
 use Rattle.skopeo_outside.specs.Steps.{Says}
-use Rattle.manifest_v2s2.specs.Image.{image_of}
 use Rattle.manifest_convert.specs.Blobs.{descriptors, blobs}
 use Rattle.policy_scope.specs.Chosen.{chosen}
 use Rattle.transports.specs.Courses.{lane_course}
