@@ -1,5 +1,5 @@
 -- A step of the first lane, and relations of the first lane, over all lanes.
-use Rattle.std.proofs.Common.{◌≡◌, ◌∙◌, ◌⊎◌, ◌≤◌, ◌<◌, ℕ, zero, suc, List, [], ◌∷◌, length, slice_get, slice_set, slice_index_or, Some, None, Result, Err, inl, inr, refl, sym, arith}
+use Rattle.std.proofs.Common.{◌≡◌, ◌∙◌, ◌⊎◌, ◌≤◌, ◌<◌, ℕ, zero, suc, List, [], ◌∷◌, length, slice_get, slice_set, slice_index_or, Some, None, Result, inl, inr, refl, sym, arith}
 use Rattle.skopeo_outside.specs.LaneTold.{LaneTold, IsLater}
 use Rattle.skopeo_outside.specs.LaneLaws.{lane_at}
 use Rattle.skopeo_outside.specs.Seen.{OnFirst, OnEach, KeepsFrom, AreLanes, seen}

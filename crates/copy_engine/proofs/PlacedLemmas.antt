@@ -1,39 +1,34 @@
 -- An image that was admitted, at its destination: the destination and the jobs, then the signatures and the manifest.
-use Rattle.std.proofs.Common.{◌≡◌, ◌∙◌, ◌⊎◌, ◌<◌, ◌≤◌, ◌++◌, ◌∷◌, ◌+◌, [], ℕ, zero, suc, Bool, true, false, List, Option, Some, None, Result, Ok, Err, length, map, slice_get, inl, inr, refl, sym, ap, subst, arith}
+use Rattle.std.proofs.Common.{◌≡◌, ◌∙◌, ◌∷◌, [], List, None, Result, Ok, Err, length, inr, sym, ap, subst, arith}
 use Rattle.std.specs.Prelude.{⊤}
-use Rattle.skopeo_outside.specs.Tree.{Tree, file_at}
-use Rattle.skopeo_outside.specs.Outside.{Told}
 use Rattle.skopeo_outside.specs.LaneTold.{LaneTold, IsLater}
-use Rattle.skopeo_outside.specs.LaneLaws.{told_then, later_same, later_then, each_then, lane_at}
-use Rattle.skopeo_outside.specs.Seen.{Seen, OnFirst, OnEach, OnSome, KeepsFrom, seen}
-use Rattle.skopeo_outside.specs.Steps.{Then, goes, stops, Says, Ends}
+use Rattle.skopeo_outside.specs.LaneLaws.{later_same, later_then, each_then}
+use Rattle.skopeo_outside.specs.Seen.{Seen, OnFirst, OnEach, KeepsFrom, seen}
+use Rattle.skopeo_outside.specs.Steps.{Then, goes, Says, Ends}
 use Rattle.skopeo_outside.specs.OnLanes.{on_first}
 use Rattle.skopeo_outside.proofs.StepLemmas.{then_ends, then_stops, given_ends}
-use Rattle.skopeo_outside.proofs.PlaceLemmas.{each_self, some_then, keeps_then}
+use Rattle.skopeo_outside.proofs.PlaceLemmas.{each_self, some_then}
 use Rattle.digest_reader.specs.declared.job.Job.{Job}
-use Rattle.layouts.specs.Names.{prefix_of, manifest_name}
-use Rattle.layouts.specs.Written.{signature_at}
 use Rattle.transports.specs.declared.source.Source.{Source}
 use Rattle.transports.specs.declared.dest.Dest.{Dest}
-use Rattle.transports.specs.declared.dest.Dest.TheVariants.{Folder}
 use Rattle.transports.specs.declared.refusal.Refusal.{Refusal}
 use Rattle.transports.specs.declared.report.Copied.{Copied}
 use Rattle.transports.specs.declared.report.CopiedRow.{CopiedRow}
 use Rattle.transports.specs.Courses.{lane_course, call_course}
 use Rattle.transports.specs.StepEnds.{IsDone, taking, putting}
 use Rattle.transports.specs.Has.{MayTake, RemovesInOrder, OnlyAtDest, KeepsAllBlobs}
-use Rattle.transports.specs.Fair.{IsFairOn, IsWork, Works, AllWork}
+use Rattle.transports.specs.Fair.{IsFairOn, Works, AllWork}
 use Rattle.transports.specs.Named.{IsNamed, AreSigned, IsAlone, HasNoManifest, AddsOnly, IsOfJobs}
 use Rattle.transports.specs.Writes.{WritesNone, WritesOnly, WritesNowhere, spot_of}
-use Rattle.transports.proofs.SameLemmas.{none_same, only_same, fair_same, writes_same, order_same}
-use Rattle.transports.proofs.WorkLemmas.{only_then, none_then, fair_then, works_later}
+use Rattle.transports.proofs.SameLemmas.{only_same, fair_same, writes_same}
+use Rattle.transports.proofs.WorkLemmas.{only_then, none_then, fair_then}
 use Rattle.admission.specs.Admission.{Admission}
 use Rattle.copy_jobs.specs.Secured.{AreDone}
 use Rattle.copy_jobs.proofs.StateLemmas.{done_kept}
 use Rattle.copy_engine.specs.Ready.{ReadyImage, IsReady, IsMadeOf, IsFilled, IsFinished, LeavesWritten, AllWritten, TakesLate}
 use Rattle.copy_engine.specs.Placed.{LeavesImage, LeavesPlaced, IsLost, IsPlaced}
-use Rattle.copy_engine.specs.Report.{rows_of, lines_of, copied_of, blob_row, manifest_row}
-use Rattle.copy_engine.specs.Walk.{forget, securing, readying, placing}
+use Rattle.copy_engine.specs.Report.{copied_of}
+use Rattle.copy_engine.specs.Walk.{readying, placing}
 use Rattle.copy_engine.proofs.LiftLemmas.{first_then, first_with, first_of, first_both, others_kept}
 use Rattle.copy_engine.proofs.ReadyLemmas.{all_later}
 use Rattle.copy_engine.proofs.ClearedLemmas.{cleared_then, cleared_order}

@@ -1,10 +1,10 @@
 -- What a source gave that was admitted, step by step.
-use Rattle.std.proofs.Common.{◌≡◌, ◌≢◌, ◌∙◌, ◌<◌, ℕ, List, [], ◌∷◌, length, Option, Some, None, Result, Ok, Err, IfSome, refl, sym, ap, subst, arith}
+use Rattle.std.proofs.Common.{◌≡◌, ◌≢◌, ◌∙◌, ◌<◌, ℕ, List, [], ◌∷◌, length, Option, None, Result, Ok, Err, IfSome, refl, sym, ap, subst, arith}
 use Rattle.std.specs.Prelude.{⊤}
-use Rattle.skopeo_outside.specs.Tree.{Tree, file_at}
+use Rattle.skopeo_outside.specs.Tree.{Tree}
 use Rattle.skopeo_outside.specs.LaneTold.{LaneTold, IsLater}
-use Rattle.skopeo_outside.specs.Seen.{Seen, OnFirst, OnEach, seen}
-use Rattle.skopeo_outside.specs.Steps.{Then, given, Ends}
+use Rattle.skopeo_outside.specs.Seen.{OnFirst, OnEach, seen}
+use Rattle.skopeo_outside.specs.Steps.{given, Ends}
 use Rattle.skopeo_outside.specs.OnLanes.{on_first}
 use Rattle.skopeo_outside.specs.declared.words.Fetched.{Fetched}
 use Rattle.image_ref.specs.declared.place.Place.{Place}
@@ -30,7 +30,6 @@ use Rattle.transports.proofs.GivenLemmas.{manifest_later, signatures_later}
 use Rattle.admission.specs.declared.found.Found.{Found}
 use Rattle.admission.specs.declared.take.Taken.{Taken}
 use Rattle.admission.specs.Admission.{Admission, IsAdmitted, judged_by, where_judged, admitted_of}
-use Rattle.admission.specs.Parts.{kind_in, image_in}
 use Rattle.admission.specs.Walk.{found, admission}
 use Rattle.copy_engine.specs.Headline.{IsOfPlan}
 use Rattle.copy_engine.proofs.LiftLemmas.{first_then, first_of}

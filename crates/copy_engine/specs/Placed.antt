@@ -1,5 +1,5 @@
 -- What the placing of an image that was admitted leaves, from the taking of the destination on.
-use Rattle.std.specs.Prelude.{◌≡◌, ◌⊎◌, [], ℕ, List, None, length}
+use Rattle.std.specs.Prelude.{◌≡◌, ◌⊎◌, List, None, length}
 use Rattle.skopeo_outside.specs.LaneTold.{LaneTold, IsLater}
 use Rattle.skopeo_outside.specs.Seen.{OnFirst, OnEach}
 use Rattle.transports.specs.declared.source.Source.{Source}

@@ -1,7 +1,6 @@
 -- How the copy of an image ends: its steps in order, the first refusal counting. Each step says which ends it may come to
 -- between what was told before it and behind it; the walk puts them one after the other.
 use Rattle.std.specs.Prelude.{◌≡◌, List, Result, Ok, Err, ⊤}
-use Rattle.skopeo_outside.specs.Seen.{Seen}
 use Rattle.skopeo_outside.specs.Steps.{◌>>=◌, given}
 use Rattle.skopeo_outside.specs.OnLanes.{SeenStep, on_first}
 use Rattle.digest_reader.specs.declared.job.Job.{Job}

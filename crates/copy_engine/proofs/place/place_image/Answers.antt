@@ -1,5 +1,4 @@
-use Rattle.std.proofs.Common.{rules, ◌≡◌, Ok, Err}
-use Rattle.skopeo_outside.specs.Seen.{seen}
+use Rattle.std.proofs.Common.{rules, ◌≡◌, Err}
 use Rattle.copy_engine.specs.Ready.{IsReady}
 use Rattle.copy_engine.specs.Report.{copied_of}
 use Rattle.copy_engine.proofs.LiftLemmas.{lanes_later}
@@ -12,8 +11,9 @@ returns-in_err-rows-clause-leaves g c = placed_same c.args.dest c.args.it.image 
 
 pub returns-in_err-ready-clause-ends : goal.returns-in_err-ready-clause-ends
 returns-in_err-ready-clause-ends g c =
-    let is : c.from_residual-in_err-ready.result ≡ Err c.in_err-ready.field-0.0 = search rules in
-    rw is (placing_stops c.args.it.from c.args.dest c.args.it.image _ _ c.in_err-ready.field-0.0 c.in_err-ready.ensures.ends)
+    let e = c.in_err-ready.field-0.0 in
+    let is : c.from_residual-in_err-ready.result ≡ Err e = search rules in
+    rw is (placing_stops c.args.it.from c.args.dest c.args.it.image _ _ e c.in_err-ready.ensures.ends)
 
 pub returns-in_err-ready-clause-leaves : goal.returns-in_err-ready-clause-leaves
 returns-in_err-ready-clause-leaves g c = jobs_left c.args.dest c.args.it.image c.args.lanes.now.items c.make_ready.new.lanes.items c.make_ready.ensures.works c.make_ready.ensures.late
@@ -24,44 +24,53 @@ returns-in_err-ready-clause-lost g c =
     rw is (jobs_lost c.args.dest c.args.lanes.now.items c.make_ready.new.lanes.items c.make_ready.ensures.works c.in_err-ready.ensures.order)
 
 pub write_manifest-requires-clause-lanes : goal.write_manifest-requires-clause-lanes
-write_manifest-requires-clause-lanes g c = lanes_later c.args.lanes.now.items c.make_ready.new.lanes.items (all_later c.args.dest c.args.lanes.now.items c.make_ready.new.lanes.items c.make_ready.ensures.works) c.requires.lanes
+write_manifest-requires-clause-lanes g c =
+    let x = c.args.lanes.now.items in
+    let y = c.make_ready.new.lanes.items in
+    lanes_later x y (all_later c.args.dest x y c.make_ready.ensures.works) c.requires.lanes
 
-pub returns-in_err-row-clause-ends : goal.returns-in_err-row-clause-ends
-returns-in_err-row-clause-ends g c =
-    let is : c.from_residual-in_err-row.result ≡ Err c.in_err-row.field-0.0 = search rules in
-    let d : c.in_ok-ready.ready.dest ≡ c.args.dest = c.in_ok-ready.ensures.made.dest_is in
-    rw is (placing_cut c.args.it.from c.args.dest c.args.it.image _ _ _ tt c.in_err-row.field-0.0 c.in_ok-ready.ensures.ends (rw d at c.in_err-row.ensures.ends))
+pub returns-in_err-row : goal.returns-in_err-row
+returns-in_err-row g c =
+    let it = c.args.it in
+    let dest = c.args.dest in
+    let r = c.in_ok-ready.ready in
+    let x = c.args.lanes.now.items in
+    let y = c.make_ready.new.lanes.items in
+    let z = c.write_manifest.new.lanes.items in
+    let m = c.in_ok-ready.ensures in
+    let e = c.in_err-row.field-0.0 in
+    let is : c.from_residual-in_err-row.result ≡ Err e = search rules in
+    let to : r.dest ≡ dest = m.made.dest_is in
+    let ready : IsReady r = search rules in
+    let wrote = all_wrote dest it.image c.in_ok-rows.field-0.row x y z r m.made ready c.write_manifest.ensures.written in
+    record {
+      ends = rw is (placing_cut it.from dest it.image _ _ _ tt e m.ends (rw to at c.in_err-row.ensures.ends));
+      placed = rw is tt;
+      told = rw is tt;
+      leaves = written_left it.from dest it.image x y z tt m.ends c.make_ready.ensures.works wrote;
+      lost = rw is (written_lost dest it.image x y z c.make_ready.ensures.works m.filled wrote c.in_err-row.ensures.none);
+      rest = search rules;
+    }
 
-pub returns-in_err-row-clause-leaves : goal.returns-in_err-row-clause-leaves
-returns-in_err-row-clause-leaves g c =
-    let ready : IsReady c.in_ok-ready.ready = search rules in
-    written_left c.args.it.from c.args.dest c.args.it.image c.args.lanes.now.items c.make_ready.new.lanes.items c.write_manifest.new.lanes.items tt c.in_ok-ready.ensures.ends c.make_ready.ensures.works
-    (all_wrote c.args.dest c.args.it.image c.in_ok-rows.field-0.row c.args.lanes.now.items c.make_ready.new.lanes.items c.write_manifest.new.lanes.items c.in_ok-ready.ready c.in_ok-ready.ensures.made ready c.write_manifest.ensures.written)
-
-pub returns-in_err-row-clause-lost : goal.returns-in_err-row-clause-lost
-returns-in_err-row-clause-lost g c =
-    let is : c.from_residual-in_err-row.result ≡ Err c.in_err-row.field-0.0 = search rules in
-    let ready : IsReady c.in_ok-ready.ready = search rules in
-    rw is (written_lost c.args.dest c.args.it.image c.args.lanes.now.items c.make_ready.new.lanes.items c.write_manifest.new.lanes.items c.make_ready.ensures.works c.in_ok-ready.ensures.filled
-    (all_wrote c.args.dest c.args.it.image c.in_ok-rows.field-0.row c.args.lanes.now.items c.make_ready.new.lanes.items c.write_manifest.new.lanes.items c.in_ok-ready.ready c.in_ok-ready.ensures.made ready c.write_manifest.ensures.written)
-    c.in_err-row.ensures.none)
-
-pub returns-clause-ends : goal.returns-clause-ends
-returns-clause-ends g c =
-    let d : c.in_ok-ready.ready.dest ≡ c.args.dest = c.in_ok-ready.ensures.made.dest_is in
-    let copied : record { rows = c.from_vec.result; lines = c.in_ok-rows.field-0.lines } ≡ copied_of c.args.it.image = search rules in
-    placing_ends c.args.it.from c.args.dest c.args.it.image _ _ _ tt tt _ c.in_ok-ready.ensures.ends (rw d at c.in_ok-row.ensures.ends) copied
-
-pub returns-clause-placed : goal.returns-clause-placed
-returns-clause-placed g c =
-    let ready : IsReady c.in_ok-ready.ready = search rules in
-    placed c.args.it.from c.args.dest c.args.it.image c.args.lanes.now.items c.make_ready.new.lanes.items c.write_manifest.new.lanes.items c.make_ready.ensures.works c.in_ok-ready.ensures.done c.in_ok-ready.ensures.filled
-    (all_wrote c.args.dest c.args.it.image c.in_ok-rows.field-0.row c.args.lanes.now.items c.make_ready.new.lanes.items c.write_manifest.new.lanes.items c.in_ok-ready.ready c.in_ok-ready.ensures.made ready c.write_manifest.ensures.written)
-    (first_stands c.args.dest c.args.it.image c.in_ok-rows.field-0.row c.args.lanes.now.items c.make_ready.new.lanes.items c.write_manifest.new.lanes.items c.in_ok-ready.ready c.in_ok-ready.ensures.made ready c.in_ok-row.ensures.finished)
-    c.write_manifest.ensures.rest
-
-pub returns-clause-leaves : goal.returns-clause-leaves
-returns-clause-leaves g c =
-    let ready : IsReady c.in_ok-ready.ready = search rules in
-    written_left c.args.it.from c.args.dest c.args.it.image c.args.lanes.now.items c.make_ready.new.lanes.items c.write_manifest.new.lanes.items tt c.in_ok-ready.ensures.ends c.make_ready.ensures.works
-    (all_wrote c.args.dest c.args.it.image c.in_ok-rows.field-0.row c.args.lanes.now.items c.make_ready.new.lanes.items c.write_manifest.new.lanes.items c.in_ok-ready.ready c.in_ok-ready.ensures.made ready c.write_manifest.ensures.written)
+pub returns : goal.returns
+returns g c =
+    let it = c.args.it in
+    let dest = c.args.dest in
+    let r = c.in_ok-ready.ready in
+    let x = c.args.lanes.now.items in
+    let y = c.make_ready.new.lanes.items in
+    let z = c.write_manifest.new.lanes.items in
+    let m = c.in_ok-ready.ensures in
+    let to : r.dest ≡ dest = m.made.dest_is in
+    let ready : IsReady r = search rules in
+    let wrote = all_wrote dest it.image c.in_ok-rows.field-0.row x y z r m.made ready c.write_manifest.ensures.written in
+    let stands = first_stands dest it.image c.in_ok-rows.field-0.row x y z r m.made ready c.in_ok-row.ensures.finished in
+    let told : record { rows = c.from_vec.result; lines = c.in_ok-rows.field-0.lines } ≡ copied_of it.image = search rules in
+    record {
+      ends = placing_ends it.from dest it.image _ _ _ tt tt _ m.ends (rw to at c.in_ok-row.ensures.ends) told;
+      placed = placed it.from dest it.image x y z c.make_ready.ensures.works m.done m.filled wrote stands c.write_manifest.ensures.rest;
+      told = told;
+      leaves = written_left it.from dest it.image x y z tt m.ends c.make_ready.ensures.works wrote;
+      lost = tt;
+      rest = search rules;
+    }
