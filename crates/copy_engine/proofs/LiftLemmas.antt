@@ -11,9 +11,9 @@ use Rattle.transports.specs.Refusals.{is_memory}
 use Rattle.transports.specs.Courses.{lane_course, call_course}
 
 -- what a step of the first lane came to, in a list in which that lane is set
-pub ends_set : {A : Type 0} (step : LaneStep Refusal A) (old : List LaneTold) (x y : LaneTold) (r : Result A Refusal) → 0 < length old → slice_index_or old 0 x ≡ x → Ends lane_course step x y r → Ends call_course (on_first lane_course step) (seen old None 0) (seen (slice_set old 0 y) None 0) r
+pub ends_set : {A : Type 0} (step : LaneStep Refusal A) (old : List LaneTold) (x y : LaneTold) (r : Result A Refusal) → Ends lane_course step x y r → slice_index_or old 0 x ≡ x → 0 < length old → Ends call_course (on_first lane_course step) (seen old None 0) (seen (slice_set old 0 y) None 0) r
 unfolding lane_course
-ends_set step old x y r some is one = first_set is_memory lane_course (λ a b later. later) step old x y (record { runs = None; faults = 0 }) r some is one
+ends_set step old x y r one is some = first_set is_memory lane_course (λ a b later. later) step old x y (record { runs = None; faults = 0 }) r some is one
 
 -- ---- relations of the first lane
 
