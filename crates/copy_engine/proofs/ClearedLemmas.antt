@@ -1,5 +1,5 @@
 -- A destination without manifests: no work at it brings one back, and so what was lost was lost in order.
-use Rattle.std.proofs.Common.{◌≡◌, ◌≢◌, ◌∙◌, ◌⊎◌, ◌++◌, ◌<◌, ◌-◌, ◌+◌, ◌/◌, ◌%◌, ◌==◌, ◌&&◌, ◌||◌, not, cond, nat_lt, codes, take, length, ℕ, zero, suc, Bool, true, false, List, [], ◌∷◌, Option, Some, None, inl, inr, refl, sym, ap, subst, append_assoc, arith}
+use Rattle.std.proofs.Common.{◌≡◌, ◌∙◌, ◌⊎◌, ◌++◌, ◌<◌, ◌-◌, ◌+◌, ◌/◌, ◌%◌, ◌==◌, ◌||◌, not, cond, nat_lt, codes, take, length, ℕ, zero, suc, Bool, true, false, List, [], ◌∷◌, Option, Some, None, inl, inr, refl, sym, ap, subst, append_assoc, arith}
 use Rattle.std.specs.Fmt.{decimal, digits, digits_onto, digit_glyph}
 use Rattle.std.specs.List.{ends_with}
 use Rattle.std.specs.Str.{bytes_eq}
@@ -15,13 +15,13 @@ use Rattle.skopeo_outside.proofs.Children.{same_rest}
 use Rattle.layouts.specs.Destination.{is_manifest_name, IsManifestIn, ImageFirst, ManifestsFirst}
 use Rattle.layouts.specs.Destination.{IsReady as IsEmptied}
 use Rattle.layouts.specs.Names.{manifest_name, prefix_of, part_name, signature_by}
-use Rattle.layouts.specs.Paths.{IsIn, IsManifestPath, avoids, blob_path, blob_part, manifest_path, version_path}
+use Rattle.layouts.specs.Paths.{IsIn, IsManifestPath, avoids, manifest_path}
 use Rattle.layouts.specs.Trees.{SameOrGone}
 use Rattle.layouts.proofs.NameLemmas.{no_dot, hex_no_dot, avoids-append, from_both, same_head, is_manifest}
 use Rattle.layouts.proofs.ReplaceLemmas.{instance_manifest}
 use Rattle.transports.specs.declared.dest.Dest.{Dest}
 use Rattle.transports.specs.declared.dest.Dest.TheVariants.{Folder}
-use Rattle.transports.specs.Fair.{IsBesideName, IsBeside, IsPartOf, IsFair, IsFairOn}
+use Rattle.transports.specs.Fair.{IsBesideName, IsBeside, IsFair, IsFairOn}
 use Rattle.transports.specs.Has.{RemovesInOrder}
 use Rattle.transports.specs.Named.{IsPrepared, HasNoManifest}
 use Rattle.transports.specs.Writes.{KeepsManifests, WritesNone}

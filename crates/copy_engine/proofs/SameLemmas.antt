@@ -1,8 +1,8 @@
 -- A call that touches nothing meets each relation of what it leaves.
-use Rattle.std.proofs.Common.{◌≡◌, ◌⊎◌, ℕ, List, [], ◌∷◌, None, Some, Result, Ok, Err, slice_get, inl, inr, refl, sym, subst, ◌∙◌}
+use Rattle.std.proofs.Common.{◌≡◌, List, [], ◌∷◌, Some, Err, inl, sym, subst, ◌∙◌}
 use Rattle.skopeo_outside.specs.LaneTold.{LaneTold}
-use Rattle.skopeo_outside.specs.LaneLaws.{later_same, each_same}
-use Rattle.skopeo_outside.specs.Seen.{Seen, OnFirst, OnEach, seen}
+use Rattle.skopeo_outside.specs.LaneLaws.{each_same}
+use Rattle.skopeo_outside.specs.Seen.{Seen, OnFirst, OnEach}
 use Rattle.skopeo_outside.specs.Steps.{Step, Ends}
 use Rattle.skopeo_outside.proofs.PlaceLemmas.{each_self}
 use Rattle.policy_file.specs.PolicyLists.{PolicyLists}
@@ -11,14 +11,14 @@ use Rattle.transports.specs.declared.plan.CopyPlan.{CopyPlan}
 use Rattle.transports.specs.declared.refusal.Refusal.{Refusal}
 use Rattle.transports.specs.declared.refusal.Refusal.TheVariants as refusal
 use Rattle.transports.specs.Courses.{call_course}
-use Rattle.transports.specs.Has.{IsUntouched, OnlyAtDest, RemovesInOrder, KeepsAllBlobs}
-use Rattle.transports.specs.Writes.{Spot, IsWrite, spot_of}
-use Rattle.transports.proofs.SameLemmas.{untouched_same, order_same, none_same, only_same, fair_same, writes_same, nowhere_same}
+use Rattle.transports.specs.Has.{IsUntouched, RemovesInOrder}
+use Rattle.transports.specs.Writes.{IsWrite}
+use Rattle.transports.proofs.SameLemmas.{untouched_same, order_same, none_same, nowhere_same}
 use Rattle.transports.proofs.WorkLemmas.{none_written}
 use Rattle.copy_jobs.specs.Secured.{AreSecured}
-use Rattle.copy_engine.specs.Headline.{IsCopied, ImageHeadline}
+use Rattle.copy_engine.specs.Headline.{ImageHeadline}
 use Rattle.copy_engine.specs.Stops.{Leaves, IsGivenUp}
-use Rattle.copy_engine.specs.Ready.{ReadyImage, IsReady, TakesLate, LeavesWritten, AllWritten}
+use Rattle.copy_engine.specs.Ready.{ReadyImage, IsReady, TakesLate}
 
 pub memory_at_once : {A : Type 0} (step : Step Seen Refusal A) (a : Seen) → Ends call_course step a a (Err refusal.Memory)
 unfolding Ends
@@ -34,13 +34,6 @@ untouched_each lanes = each_self (λ place a b. IsUntouched a b) (λ place a. un
 pub late_same : (dest : Dest) (lanes : List LaneTold) → TakesLate dest lanes lanes
 unfolding TakesLate
 late_same dest lanes = inl (untouched_each lanes)
-
-pub written_same : (r : ReadyImage) (lanes : List LaneTold) → AllWritten r lanes lanes
-unfolding AllWritten
-written_same r lanes = each_self (λ place a b. LeavesWritten r a b) (λ place a. one a) lanes
-  where
-    one : (a : LaneTold) → LeavesWritten r a a
-    one a = record { later = later_same a; writes = writes_same (spot_of r.dest None) r.bytes a; only = only_same r.dest a; fair = fair_same r.dest a.number a; blobs = λ job first has. has }
 
 pub ready_secured : (r : ReadyImage) (lanes : List LaneTold) → IsReady r → r.made ≡ lanes → AreSecured r.dest r.image.jobs r.entry lanes
 ready_secured r lanes ready made = subst (AreSecured r.dest r.image.jobs r.entry) made ready.secured

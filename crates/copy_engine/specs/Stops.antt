@@ -1,6 +1,5 @@
 -- What a copy leaves at every exit, want of memory and faults of the outside included.
 use Rattle.std.specs.Prelude.{◌⊎◌, Result, IfErr}
-use Rattle.skopeo_outside.specs.LaneTold.{LaneTold}
 use Rattle.skopeo_outside.specs.Seen.{Seen, OnFirst, OnEach}
 use Rattle.policy_file.specs.PolicyLists.{PolicyLists}
 use Rattle.transports.specs.declared.source.Source.{Source}

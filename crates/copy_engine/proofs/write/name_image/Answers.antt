@@ -1,11 +1,4 @@
-use Rattle.std.proofs.Common.{rules, ◌≡◌, ◌∙◌, None, Ok, Err, OnOk, OnErr, refl}
-use Rattle.skopeo_outside.specs.Steps.{Ends}
-use Rattle.transports.specs.Courses.{lane_course}
-use Rattle.transports.specs.StepEnds.{putting}
-use Rattle.transports.specs.Fair.{Works}
-use Rattle.transports.specs.Has.{KeepsAllBlobs}
-use Rattle.transports.specs.Named.{IsNamed, AreSigned}
-use Rattle.transports.specs.Writes.{WritesOnly, spot_of}
+use Rattle.std.proofs.Common.{rules, ◌≡◌, ◌∙◌, Err, refl}
 use Rattle.copy_engine.proofs.WriteLemmas.{putting_then, signed_leaves, named_leaves, works_none, named_none, works_number, finished}
 use Rattle.copy_engine.proofs.write.name_image.Goals as goal
 
