@@ -1,7 +1,5 @@
-pub mod OutcomeLemmas
 pub mod TaskLemmas
 pub mod PolicyLemmas
-pub mod RunLemmas
+pub mod CountsLemmas
 pub mod TellingLemmas
-pub mod LaneLemmas
-pub mod CompleteLemmas
+pub mod EarlierLemmas

@@ -1,8 +1,12 @@
-pub mod Outcome
+pub mod Sinks
+pub mod Refusals
+pub mod Courses
 pub mod Task
 pub mod Policy
-pub mod Ending
 pub mod Headline
+pub mod Ending
+pub mod Stops
 pub mod JobLines
 pub mod Lines
+pub mod Answer
 pub mod Calls

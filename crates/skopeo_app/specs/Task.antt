@@ -1,11 +1,12 @@
 -- What the words ask for, once their places are read and what is not built is refused.
-use Rattle.std.specs.Prelude.{◌&&◌, ◌||◌, List, ℕ, Bool, if◌then◌else◌, Option, Some, None, Result, Ok, Err, ⊤}
+use Rattle.std.specs.Prelude.{◌&&◌, ◌||◌, ◌<◌, [], List, ℕ, Bool, true, false, if◌then◌else◌, max, Option, Some, None, Result, Ok, Err, ⊤}
 use Rattle.std.specs.Option.{is_some}
 use Rattle.std.specs.Str.{bytes_eq}
 use Rattle.image_ref.specs.Path.{cleaned}
 use Rattle.image_ref.specs.Reading.{reading_of}
 use Rattle.image_ref.specs.PlaceReading.{place_of}
 use Rattle.image_ref.specs.declared.place.Place.{Place}
+use Rattle.image_ref.specs.declared.place.Place.TheVariants as place
 use Rattle.image_ref.specs.declared.fault.RefFault.{RefFault}
 use Rattle.image_ref.specs.declared.fault.PlaceFault.{PlaceFault}
 use Rattle.image_ref.specs.declared.fault.PlaceFault.TheVariants as fault
@@ -19,9 +20,9 @@ use Rattle.skopeo_words.specs.declared.command.SyncEnd.{SyncEnd}
 use Rattle.skopeo_words.specs.declared.command.SyncEnd.TheVariants as sync_end
 use Rattle.skopeo_words.specs.declared.fault.WordsFault.{WordsFault}
 use Rattle.skopeo_words.specs.declared.fault.WordsFault.TheVariants as words_fault
-use Rattle.copy_engine.specs.declared.plan.CopyPlan.{CopyPlan}
-use Rattle.copy_engine.specs.declared.refusal.Refusal.TheVariants as image
-use Rattle.copy_engine.specs.Plan.{is_folder, folder_in, IsBetweenFolders}
+use Rattle.transports.specs.declared.plan.CopyPlan.{CopyPlan}
+use Rattle.transports.specs.declared.refusal.Refusal.TheVariants as image
+use Rattle.transports.specs.Places.{IsBetweenPlaces}
 use Rattle.skopeo_app.specs.declared.refusal.Unbuilt.TheVariants as unbuilt
 use Rattle.skopeo_app.specs.declared.refusal.CommandRefusal.{CommandRefusal}
 use Rattle.skopeo_app.specs.declared.refusal.CommandRefusal.TheVariants.{Words, Reference, SamePlace, NotBuilt, Image}
@@ -44,6 +45,18 @@ or_reference text (Err fault) = Err (Reference text fault)
 unfoldable pub place_at : List ℕ → List ℕ → Result Place CommandRefusal
 place_at cwd text = or_reference text (place_of cwd text)
 
+-- a place of the transport `dir`
+abbrev pub is_folder : Place → Bool
+is_folder (place.Docker reference) = false
+is_folder (place.Dir path) = true
+is_folder (place.Oci path tag) = false
+
+-- its folder
+abbrev pub folder_in : Place → List ℕ
+folder_in (place.Docker reference) = []
+folder_in (place.Dir path) = path
+folder_in (place.Oci path tag) = []
+
 -- two places that are one folder
 abbrev pub are_same : CopyPlan → Bool
 are_same plan = (is_folder plan.source && is_folder plan.dest) && bytes_eq (folder_in plan.source) (folder_in plan.dest)
@@ -51,12 +64,16 @@ are_same plan = (is_folder plan.source && is_folder plan.dest) && bytes_eq (fold
 abbrev pub apart : CopyPlan → Result CopyPlan CommandRefusal
 apart plan = if are_same plan then Err (SamePlace (folder_in plan.source)) else Ok plan
 
+-- on how many first lanes blobs are carried: as many as `--lanes` says, which is at least one
+abbrev pub lanes_for : Common → ℕ
+lanes_for common = max common.lanes 1
+
 -- the places of a copy: the source is read first
-unfoldable pub plan_of : List ℕ → List ℕ → List ℕ → Result CopyPlan CommandRefusal
-plan_of cwd source dest = do
+unfoldable pub plan_of : List ℕ → ℕ → List ℕ → List ℕ → Result CopyPlan CommandRefusal
+plan_of cwd lanes source dest = do
   from ← place_at cwd source
   to ← place_at cwd dest
-  apart (record { source = from; dest = to })
+  apart (record { source = from; dest = to; lanes = lanes })
 
 -- an option is given of which the work is not built
 abbrev pub asks_more : Common → Passing → Bool → Bool
@@ -87,14 +104,18 @@ choice_of cwd common = if common.insecure_policy then Anything else by_path cwd 
 -- one copy
 unfoldable pub copy_of : List ℕ → Common → Passing → Bool → Bool → List ℕ → List ℕ → Result Task CommandRefusal
 copy_of cwd common passing quiet short_names source dest = do
-  plan ← plan_of cwd source dest
+  plan ← plan_of cwd (lanes_for common) source dest
   _ ← built common passing short_names plan
   Ok (Copy (record { policy = choice_of cwd common; quiet = quiet; plan = plan }))
 
--- what a copy needs: two folders that are not one
+-- what a copy needs: two places that are not one folder, and a lane
+pub record IsSoundPlan (plan : CopyPlan) : Type 0 where
+  pub places : IsBetweenPlaces plan
+  pub lanes : 0 < plan.lanes
+
 abbrev pub IsSound : Task → Type 0
 IsSound (Page text) = Unit {0}
-IsSound (Copy task) = IsBetweenFolders task.plan
+IsSound (Copy task) = IsSoundPlan task.plan
 
 -- a command that is not built is refused once its place is read
 unfoldable pub unbuilt_at : List ℕ → List ℕ → Result Task CommandRefusal
@@ -128,3 +149,9 @@ by_words cwd (Err words_fault.Memory) = Err (Image image.Memory)
 -- what the words ask for
 unfoldable pub task_of : List (List ℕ) → List ℕ → Result Task CommandRefusal
 task_of words cwd = by_words cwd (command_of words)
+
+-- how many first lanes the words name
+abbrev pub lanes_of : Result Task CommandRefusal → ℕ
+lanes_of (Ok (Page text)) = 0
+lanes_of (Ok (Copy task)) = task.plan.lanes
+lanes_of (Err e) = 0
