@@ -1,8 +1,8 @@
 -- The policy that was read on the first lane is the one that counts.
-use Rattle.std.proofs.Common.{◌≡◌, ◌∙◌, ◌<◌, Bool, true, false, List, [], ◌∷◌, ℕ, length, nat_le, Option, Some, None, Result, Ok, Err, IfSome, IfOk, slice_index_or, slice_set, refl, sym, ap, subst, arith}
+use Rattle.std.proofs.Common.{◌≡◌, ◌∙◌, ◌<◌, Bool, true, false, List, [], ◌∷◌, ℕ, length, nat_le, cond, Option, Some, None, Result, Ok, Err, IfSome, IfOk, slice_index_or, slice_set, refl, sym, ap, subst, arith}
 use Rattle.skopeo_outside.specs.Tree.{Tree, file_at}
 use Rattle.skopeo_outside.specs.LaneTold.{LaneTold}
-use Rattle.skopeo_outside.specs.Seen.{Seen, HelperTold, seen}
+use Rattle.skopeo_outside.specs.Seen.{seen}
 use Rattle.skopeo_outside.specs.Steps.{Ends}
 use Rattle.skopeo_outside.proofs.FirstLemmas.{first_set, set_each, set_keeps}
 use Rattle.layouts.specs.Bounds.{limited, limit, whole_of, bounded_by}

@@ -1,5 +1,5 @@
 -- What holds between two states holds from a state on before which files were read alone.
-use Rattle.std.proofs.Common.{◌≡◌, ◌∙◌, ◌⊎◌, ◌<◌, ℕ, List, [], ◌∷◌, Option, None, Some, Result, Ok, IfSome, length, slice_get, inl, inr, refl, sym, subst, arith}
+use Rattle.std.proofs.Common.{◌≡◌, ◌∙◌, ◌⊎◌, ℕ, List, [], ◌∷◌, Option, None, Result, Ok, IfSome, length, inl, inr, refl, sym, subst, arith}
 use Rattle.skopeo_outside.specs.Outside.{Told}
 use Rattle.skopeo_outside.specs.LaneTold.{LaneTold}
 use Rattle.skopeo_outside.specs.LaneLaws.{each_then, lane_at}
@@ -23,7 +23,6 @@ use Rattle.transports.specs.Writes.{Spot, AtPath, IsWrite, ShowsWrite, WritesNon
 use Rattle.transports.specs.Named.{IsNamed, AreSigned, IsAlone, AddsOnly, IsOfJobs}
 use Rattle.transports.specs.StepEnds.{IsDone}
 use Rattle.transports.proofs.HasLemmas.{has_earlier, reported_earlier, untouched_then}
-use Rattle.copy_jobs.specs.Secured.{AreSecured, AreDone}
 use Rattle.admission.specs.Admission.{Admission}
 use Rattle.copy_engine.specs.Headline.{IsOfPlan, IsCopied, ImageHeadline}
 use Rattle.copy_engine.specs.Stops.{IsTouched, Leaves, IsGivenUp}
@@ -96,7 +95,7 @@ done_earlier s to job a b c q h = record { has = has_earlier to job a b c (quiet
     by (inr given) = inr (given.0, blob_earlier s job (Ok given.0) a b c q given.1)
 
 -- a manifest that was written was written since
-write_later : (at : Spot) (bytes : List ℕ) (a b c : LaneTold) → IsQuiet a b → IsWrite a c at bytes → IsWrite b c at bytes
+pub write_later : (at : Spot) (bytes : List ℕ) (a b c : LaneTold) → IsQuiet a b → IsWrite a c at bytes → IsWrite b c at bytes
 write_later (AtPath path) bytes a b c q h = subst (λ x. ShowsWrite x c.files.tree path bytes) (sym q.tree) h
 
 -- ---- all lanes

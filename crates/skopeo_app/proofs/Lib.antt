@@ -1,5 +1,9 @@
 pub mod TaskLemmas
 pub mod PolicyLemmas
 pub mod CountsLemmas
-pub mod TellingLemmas
 pub mod EarlierLemmas
+pub mod AheadLemmas
+pub mod ImageLemmas
+pub mod TellingLemmas
+pub mod RunLemmas
+pub mod CommandLemmas

@@ -1,6 +1,6 @@
 -- The policy file that counts, as a step of a lane.
-use Rattle.std.proofs.Common.{◌≡◌, ◌∙◌, ◌≤◌, Bool, true, false, List, [], ◌∷◌, ℕ, length, Option, Some, None, Result, Ok, Err, IfSome, IfErr, refl, sym, ap, subst, arith}
-use Rattle.std.specs.Option.{option_map, is_some}
+use Rattle.std.proofs.Common.{◌≡◌, ◌∙◌, Bool, true, false, List, [], ◌∷◌, ℕ, length, Option, Some, None, Result, Ok, Err, IfSome, IfErr, refl, sym, ap, subst, arith}
+use Rattle.std.specs.Option.{option_map}
 use Rattle.skopeo_outside.specs.Tree.{Tree, file_at}
 use Rattle.skopeo_outside.specs.Outside.{Told, HasCause}
 use Rattle.skopeo_outside.specs.declared.stop.Stop.{Stop}
@@ -22,7 +22,7 @@ use Rattle.skopeo_app.specs.declared.refusal.CommandRefusal.{CommandRefusal}
 use Rattle.skopeo_app.specs.declared.refusal.CommandRefusal.TheVariants.{Words, Reference, SamePlace, NotBuilt, PolicyMissing, PolicyInvalid, PolicyTooLarge, Image, Output}
 use Rattle.skopeo_app.specs.declared.task.PolicyChoice.{PolicyChoice}
 use Rattle.skopeo_app.specs.declared.task.PolicyChoice.TheVariants.{Anything, Named, Usual}
-use Rattle.skopeo_app.specs.Refusals.{is_free, is_of_words}
+use Rattle.skopeo_app.specs.Refusals.{is_free, is_of_copy}
 use Rattle.skopeo_app.specs.Courses.{lane_course, shows_earlier}
 use Rattle.skopeo_app.specs.Policy.{system_path, user_path, usual_path, or_invalid, policy_from, policy_file, policy_end}
 use Rattle.skopeo_app.specs.Calls.{stopped, IsQuiet, ReadsPolicy, by_files}
@@ -63,12 +63,12 @@ said_ends {A} step a b w (Err e) later says end = record { later = later; ends =
     by true shown = shows_earlier e a b b later (shown b)
     by false is = subst (step a b) is end
 
--- ---- what is no refusal of the words
+-- ---- refusals of the policy
 
 err_same : {A : Type 0} (d e : CommandRefusal) → ◌≡◌ {A = Result A CommandRefusal} (Err d) (Err e) → d ≡ e
 err_same d e is = cc
 
-free_other : (e : CommandRefusal) → is_free e ≡ true → is_of_words e ≡ false
+free_other : (e : CommandRefusal) → is_free e ≡ true → is_of_copy e ≡ true
 free_other (Words place kind) free = let x : false ≡ true = free in cc
 free_other (Reference text fault) free = let x : false ≡ true = free in cc
 free_other (SamePlace path) free = let x : false ≡ true = free in cc
@@ -77,25 +77,25 @@ free_other (PolicyMissing path) free = refl
 free_other (PolicyInvalid path kind member) free = refl
 free_other PolicyTooLarge free = refl
 free_other (Image e) free = refl
-free_other (Output count) free = refl
+free_other (Output count) free = let x : false ≡ true = free in cc
 
-invalid_other : (path : List ℕ) (r : Result PolicyLists PolicyFault) (e : CommandRefusal) → or_invalid path r ≡ Err e → is_of_words e ≡ false
+invalid_other : (path : List ℕ) (r : Result PolicyLists PolicyFault) (e : CommandRefusal) → or_invalid path r ≡ Err e → is_of_copy e ≡ true
 invalid_other path (Ok p) e is = let x : ◌≡◌ {A = Result PolicyLists CommandRefusal} (Ok p) (Err e) = is in cc
-invalid_other path (Err (fault.Refused kind member)) e is = subst (λ v. is_of_words v ≡ false) (err_same (PolicyInvalid path kind member) e is) refl
-invalid_other path (Err fault.Memory) e is = subst (λ v. is_of_words v ≡ false) (err_same (Image image.Memory) e is) refl
+invalid_other path (Err (fault.Refused kind member)) e is = subst (λ v. is_of_copy v ≡ true) (err_same (PolicyInvalid path kind member) e is) refl
+invalid_other path (Err fault.Memory) e is = subst (λ v. is_of_copy v ≡ true) (err_same (Image image.Memory) e is) refl
 
-from_other : (path : List ℕ) (file : Limited) (e : CommandRefusal) → policy_from path file ≡ Err e → is_of_words e ≡ false
+from_other : (path : List ℕ) (file : Limited) (e : CommandRefusal) → policy_from path file ≡ Err e → is_of_copy e ≡ true
 unfolding policy_from
-from_other path Absent e is = subst (λ v. is_of_words v ≡ false) (err_same (PolicyMissing path) e is) refl
-from_other path TooLong e is = subst (λ v. is_of_words v ≡ false) (err_same PolicyTooLarge e is) refl
+from_other path Absent e is = subst (λ v. is_of_copy v ≡ true) (err_same (PolicyMissing path) e is) refl
+from_other path TooLong e is = subst (λ v. is_of_copy v ≡ true) (err_same PolicyTooLarge e is) refl
 from_other path (Whole bytes) e is = invalid_other path (policy_in bytes) e is
 
-said_other : (path : List ℕ) (file : Limited) (r : Result PolicyLists CommandRefusal) → Says lane_course (policy_from path file) r → IfErr r (λ e. is_of_words e ≡ false)
+said_other : (path : List ℕ) (file : Limited) (r : Result PolicyLists CommandRefusal) → Says lane_course (policy_from path file) r → IfErr r (λ e. is_of_copy e ≡ true)
 unfolding Says lane_course
 said_other path file (Ok p) says = tt
 said_other path file (Err e) says = by (is_free e) refl says
   where
-    by : (f : Bool) → is_free e ≡ f → SaysBy f lane_course (policy_from path file) e → is_of_words e ≡ false
+    by : (f : Bool) → is_free e ≡ f → SaysBy f lane_course (policy_from path file) e → is_of_copy e ≡ true
     by true free says = free_other e free
     by false free says = from_other path file e says
 
@@ -109,7 +109,7 @@ stopped_at step a b stop.Memory q cause = record { ends = record { later = quiet
 -- a stopped call of the files ends any step
 pub stopped_reads : {B : Type 0} (step : LaneStep CommandRefusal PolicyLists) (a b : LaneTold) (s : Stop) (e : CommandRefusal) → IsQuiet a b → HasCause {T = B} a.files.faults b.files.faults (Err s) → e ≡ stopped s b.files.faults
     → ReadsPolicy step a b (Err e)
-stopped_reads {B} step a b s e q cause is = subst (λ v. ReadsPolicy step a b (Err v)) (sym is) (stopped_at {B} step a b s q cause)
+stopped_reads {B} step a b s e q cause is = subst (λ v. ReadsPolicy step a b (Err v)) (sym is) (stopped_at {B = B} step a b s q cause)
 
 pub memory_reads : (step : LaneStep CommandRefusal PolicyLists) (a : LaneTold) → ReadsPolicy step a a (Err (Image image.Memory))
 unfolding Ends lane_course
@@ -142,18 +142,35 @@ reads_then f g a m b r q same reads = record {
   other = reads.other;
 }
 
+named_end : (home cwd path : List ℕ) (a b : LaneTold) (w : Result PolicyLists CommandRefusal) → by_files (λ t. policy_file t path) a b w → policy_end home cwd (Named path) a b w
+unfolding by_files policy_end
+named_end home cwd path a b w end = end
+
+usual_end : (home cwd : List ℕ) (a b : LaneTold) (w : Result PolicyLists CommandRefusal) → by_files (λ t. policy_file t (usual_path t home cwd)) a b w → policy_end home cwd Usual a b w
+unfolding by_files policy_end
+usual_end home cwd a b w end = end
+
 -- the policy of a choice
-pub named_reads : (home cwd path : List ℕ) (a b : LaneTold) (r : Result PolicyLists CommandRefusal) → ReadsPolicy (by_files (λ t. policy_file t path)) a b r → ReadsPolicy (policy_end home cwd (Named path)) a b r
-unfolding by_files policy_end
-named_reads home cwd path a b r reads = record { ends = ends_as (by_files (λ t. policy_file t path)) (policy_end home cwd (Named path)) a a b r (later_same a) (λ w end. end) reads.ends; quiet = reads.quiet; other = reads.other }
+pub named_reads : (home cwd path : List ℕ) (choice : PolicyChoice) (a b : LaneTold) (r : Result PolicyLists CommandRefusal) → choice ≡ Named path → ReadsPolicy (by_files (λ t. policy_file t path)) a b r → ReadsPolicy (policy_end home cwd choice) a b r
+named_reads home cwd path choice a b r is reads = subst (λ v. ReadsPolicy (policy_end home cwd v) a b r) (sym is) (record {
+  ends = ends_as (by_files (λ t. policy_file t path)) (policy_end home cwd (Named path)) a a b r (later_same a) (named_end home cwd path a b) reads.ends;
+  quiet = reads.quiet;
+  other = reads.other;
+})
 
-pub usual_reads : (home cwd : List ℕ) (a b : LaneTold) (r : Result PolicyLists CommandRefusal) → ReadsPolicy (by_files (λ t. policy_file t (usual_path t home cwd))) a b r → ReadsPolicy (policy_end home cwd Usual) a b r
-unfolding by_files policy_end
-usual_reads home cwd a b r reads = record { ends = ends_as (by_files (λ t. policy_file t (usual_path t home cwd))) (policy_end home cwd Usual) a a b r (later_same a) (λ w end. end) reads.ends; quiet = reads.quiet; other = reads.other }
+pub usual_reads : (home cwd : List ℕ) (choice : PolicyChoice) (a b : LaneTold) (r : Result PolicyLists CommandRefusal) → choice ≡ Usual → ReadsPolicy (by_files (λ t. policy_file t (usual_path t home cwd))) a b r → ReadsPolicy (policy_end home cwd choice) a b r
+usual_reads home cwd choice a b r is reads = subst (λ v. ReadsPolicy (policy_end home cwd v) a b r) (sym is) (record {
+  ends = ends_as (by_files (λ t. policy_file t (usual_path t home cwd))) (policy_end home cwd Usual) a a b r (later_same a) (usual_end home cwd a b) reads.ends;
+  quiet = reads.quiet;
+  other = reads.other;
+})
 
-pub anything_reads : (home cwd : List ℕ) (a : LaneTold) (p : PolicyLists) → p ≡ accepting → ReadsPolicy (policy_end home cwd Anything) a a (Ok p)
+anything_at : (home cwd : List ℕ) (a : LaneTold) (p : PolicyLists) → p ≡ accepting → ReadsPolicy (policy_end home cwd Anything) a a (Ok p)
 unfolding Ends lane_course policy_end
-anything_reads home cwd a p is = record { ends = record { later = later_same a; ends = (ap Ok is, quiet_untouched a a (quiet_same a)) }; quiet = quiet_same a; other = tt }
+anything_at home cwd a p is = record { ends = record { later = later_same a; ends = (ap Ok is, quiet_untouched a a (quiet_same a)) }; quiet = quiet_same a; other = tt }
+
+pub anything_reads : (home cwd : List ℕ) (choice : PolicyChoice) (a : LaneTold) (p : PolicyLists) → choice ≡ Anything → p ≡ accepting → ReadsPolicy (policy_end home cwd choice) a a (Ok p)
+anything_reads home cwd choice a p is accepts = subst (λ v. ReadsPolicy (policy_end home cwd v) a a (Ok p)) (sym is) (anything_at home cwd a p accepts)
 
 -- ---- the usual policy
 
@@ -186,13 +203,15 @@ system_is (c ∷ home) cwd (Some t) none = by (file_at t (user_path (c ∷ home)
     by (Some bytes) e = let x : None ≡ Some (length bytes) = none ∙ ap (option_map length) e in cc
 
 -- the user's file is there
-pub user_reads : (home cwd : List ℕ) (size : ℕ) (a m b : LaneTold) (r : Result PolicyLists CommandRefusal) → (length home ≡ 0 → ⊥) → IsQuiet a m
-    → IfSome a.files.tree (λ t. Some size ≡ option_map length (file_at t (user_path home cwd))) → ReadsPolicy (by_files (λ t. policy_file t (user_path home cwd))) m b r
-    → ReadsPolicy (by_files (λ t. policy_file t (usual_path t home cwd))) a b r
-user_reads home cwd size a m b r some q there reads = reads_then (λ t. policy_file t (usual_path t home cwd)) (λ t. policy_file t (user_path home cwd)) a m b r q (at_path a.files.tree home cwd (user_path home cwd) (user_is home cwd size a.files.tree some there)) reads
+pub user_reads : (home cwd asked path : List ℕ) (size : ℕ) (a m b : LaneTold) (r : Result PolicyLists CommandRefusal) → (length home ≡ 0 → ⊥) → asked ≡ user_path home cwd → path ≡ user_path home cwd → IsQuiet a m
+    → IfSome a.files.tree (λ t. Some size ≡ option_map length (file_at t asked)) → ReadsPolicy (by_files (λ t. policy_file t path)) m b r → ReadsPolicy (by_files (λ t. policy_file t (usual_path t home cwd))) a b r
+user_reads home cwd asked path size a m b r some ask is q there reads =
+    let at = at_path a.files.tree home cwd (user_path home cwd) (user_is home cwd size a.files.tree some (subst (λ v. IfSome a.files.tree (λ t. Some size ≡ option_map length (file_at t v))) ask there)) in
+    reads_then (λ t. policy_file t (usual_path t home cwd)) (λ t. policy_file t (user_path home cwd)) a m b r q at (subst (λ v. ReadsPolicy (by_files (λ t. policy_file t v)) m b r) is reads)
 
 -- it is not
-pub system_reads : (home cwd : List ℕ) (a m b : LaneTold) (r : Result PolicyLists CommandRefusal) → IsQuiet a m
-    → IfSome a.files.tree (λ t. None ≡ option_map length (file_at t (user_path home cwd))) → ReadsPolicy (by_files (λ t. policy_file t system_path)) m b r
-    → ReadsPolicy (by_files (λ t. policy_file t (usual_path t home cwd))) a b r
-system_reads home cwd a m b r q none reads = reads_then (λ t. policy_file t (usual_path t home cwd)) (λ t. policy_file t system_path) a m b r q (at_path a.files.tree home cwd system_path (system_is home cwd a.files.tree none)) reads
+pub system_reads : (home cwd asked : List ℕ) (a m b : LaneTold) (r : Result PolicyLists CommandRefusal) → asked ≡ user_path home cwd → IsQuiet a m
+    → IfSome a.files.tree (λ t. None ≡ option_map length (file_at t asked)) → ReadsPolicy (by_files (λ t. policy_file t system_path)) m b r → ReadsPolicy (by_files (λ t. policy_file t (usual_path t home cwd))) a b r
+system_reads home cwd asked a m b r ask q none reads =
+    let at = at_path a.files.tree home cwd system_path (system_is home cwd a.files.tree (subst (λ v. IfSome a.files.tree (λ t. None ≡ option_map length (file_at t v))) ask none)) in
+    reads_then (λ t. policy_file t (usual_path t home cwd)) (λ t. policy_file t system_path) a m b r q at reads

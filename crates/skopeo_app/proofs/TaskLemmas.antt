@@ -1,9 +1,8 @@
 -- Steps of what the words ask for, one after the other.
-use Rattle.std.proofs.Common.{Bool, true, false, ◌≡◌, ◌≢◌, ◌≤◌, ◌<◌, ◌&&◌, max, List, ℕ, Result, Ok, Err, refl, sym, ap, subst, ◌∙◌, arith}
+use Rattle.std.proofs.Common.{Bool, true, false, ◌≡◌, max, List, ℕ, Result, Ok, Err, refl, sym, subst, ◌∙◌, arith}
 use Rattle.std.specs.Str.{bytes_eq}
 use Rattle.std.proofs.lemmas.Slice.Eq.{bytes_eq-Decides}
 use Rattle.skopeo_outside.specs.Steps.{Says, SaysBy}
-use Rattle.image_ref.specs.declared.place.Place.{Place}
 use Rattle.image_ref.specs.declared.place.Place.TheVariants.{Dir}
 use Rattle.transports.specs.declared.plan.CopyPlan.{CopyPlan}
 use Rattle.skopeo_app.specs.declared.refusal.CommandRefusal.{CommandRefusal}
@@ -11,7 +10,7 @@ use Rattle.skopeo_app.specs.declared.refusal.CommandRefusal.TheVariants as refus
 use Rattle.transports.specs.declared.refusal.Refusal.TheVariants as image
 use Rattle.skopeo_app.specs.Refusals.{is_memory}
 use Rattle.skopeo_app.specs.Courses.{command_course}
-use Rattle.skopeo_app.specs.Task.{◌>>=◌, is_folder, folder_in, are_same, IsSoundPlan}
+use Rattle.skopeo_app.specs.Task.{◌>>=◌, are_same, IsSoundPlan}
 
 -- a step that answered a value leaves the rest to the next
 pub then_says : {A B : Type 0} (w : Result A CommandRefusal) (f : A → Result B CommandRefusal) (x : A) (r : Result B CommandRefusal) → Says command_course w (Ok x) → Says command_course (f x) r → Says command_course (w >>= f) r

@@ -1,15 +1,15 @@
 -- What writing a line leaves.
-use Rattle.std.proofs.Common.{◌≡◌, ◌++◌, ◌⊎◌, List, [], ℕ, true, false, Option, Some, None, Result, Ok, Err, OnOk, IfSome, refl, sym, ap, subst, inl, inr, append-nil, arith}
+use Rattle.std.proofs.Common.{◌≡◌, ◌++◌, ◌⊎◌, List, [], ℕ, Option, Some, None, Result, Ok, Err, OnOk, refl, sym, ap, inl, inr, append-nil, arith}
 use Rattle.std.specs.Prelude.{codes}
 use Rattle.std.specs.Option.{option_map}
 use Rattle.skopeo_outside.specs.declared.stop.Stop.{Stop}
 use Rattle.skopeo_outside.specs.declared.stop.Stop.TheVariants as stop
-use Rattle.skopeo_outside.specs.Outside.{HasCause, CountsWant, Told, HasPrefixOf}
+use Rattle.skopeo_outside.specs.Outside.{HasCause, CountsWant}
 use Rattle.transports.specs.declared.refusal.Refusal.TheVariants as image
 use Rattle.skopeo_app.specs.declared.refusal.CommandRefusal.{CommandRefusal}
 use Rattle.skopeo_app.specs.declared.refusal.CommandRefusal.TheVariants as refusal
 use Rattle.skopeo_app.specs.declared.run.Done.{Done}
-use Rattle.skopeo_app.specs.Sinks.{SinkTold, IsLaterSink, Gained}
+use Rattle.skopeo_app.specs.Sinks.{SinkTold, Gained}
 use Rattle.skopeo_app.specs.Calls.{Tells, Finishes}
 use Rattle.skopeo_app.specs.Lines.{image_line, refusal_line}
 

@@ -1,5 +1,5 @@
 -- The end of the command: its answer, its status, and its lines.
-use Rattle.std.specs.Prelude.{◌≡◌, ◌⊎◌, List, ℕ, true, None, Result, Ok, Err, IfErr, IfOk}
+use Rattle.std.specs.Prelude.{◌≡◌, List, ℕ, true, None, Result, Err, IfErr, IfOk}
 use Rattle.skopeo_outside.specs.LaneTold.{LaneTold}
 use Rattle.skopeo_outside.specs.Seen.{seen}
 use Rattle.skopeo_outside.specs.Steps.{Ends}

@@ -23,7 +23,7 @@ use Rattle.skopeo_app.specs.declared.run.Done.{Done}
 use Rattle.skopeo_app.specs.declared.task.CopyTask.{CopyTask}
 use Rattle.skopeo_app.specs.declared.task.PolicyChoice.{PolicyChoice}
 use Rattle.skopeo_app.specs.Sinks.{SinkTold, IsLaterSink, Gains, Gained}
-use Rattle.skopeo_app.specs.Refusals.{IsUnprinted, BlamesOutput, is_of_words, is_ahead}
+use Rattle.skopeo_app.specs.Refusals.{IsUnprinted, BlamesOutput, is_of_words, is_of_copy, is_ahead}
 use Rattle.skopeo_app.specs.Courses.{lane_course, seen_course, CommandTold, command_course}
 use Rattle.skopeo_app.specs.Task.{task_of, lanes_of}
 use Rattle.skopeo_app.specs.Policy.{by_tree, policy_end}
@@ -52,7 +52,7 @@ pub record IsQuiet (old new : LaneTold) : Type 0 where
 pub record ReadsPolicy (step : LaneTold → LaneTold → Result PolicyLists CommandRefusal → Type 0) (old new : LaneTold) (result : Result PolicyLists CommandRefusal) : Type 0 where
   pub ends : Ends lane_course step old new result
   pub quiet : IsQuiet old new
-  pub other : IfErr result (λ e. is_of_words e ≡ false)
+  pub other : IfErr result (λ e. is_of_copy e ≡ true)
 
 -- the step that reads a policy of the lane's files
 unfoldable pub by_files : (Tree → Result PolicyLists CommandRefusal) → LaneStep CommandRefusal PolicyLists
@@ -64,7 +64,7 @@ pub record ReadsFirst (home cwd : List ℕ) (choice : PolicyChoice) (old new : S
   pub counts : IfOk result (Counts (first_tree old.lanes) home cwd choice)
   pub quiet : OnEach (λ place a b. IsQuiet a b) old.lanes new.lanes
   pub rest : KeepsFrom 1 old.lanes new.lanes
-  pub other : IfErr result (λ e. is_of_words e ≡ false)
+  pub other : IfErr result (λ e. is_of_copy e ≡ true)
 
 -- ---- one copy
 
@@ -77,7 +77,7 @@ pub record CopiesImage (policy : PolicyLists) (plan : CopyPlan) (old new : Seen)
   pub delivered : IfOk result (λ copied. Delivers policy plan copied old new)
   pub rest : KeepsFrom plan.lanes old.lanes new.lanes
   pub untouched : IfErr result (λ e. is_ahead e ≡ true → AreUntouched old new)
-  pub other : IfErr result (λ e. is_of_words e ≡ false)
+  pub other : IfErr result (λ e. is_of_copy e ≡ true)
 
 -- behind each manifest that was written stands the image of the task, under the policy that counts
 abbrev pub TaskHeadline : List ℕ → List ℕ → CopyTask → Seen → Seen → Type 0
@@ -103,7 +103,7 @@ pub record CopiesTask (home cwd : List ℕ) (task : CopyTask) (old new : Seen) (
   pub gives_up : engine.GivesUp result task.plan old new
   pub delivered : IfOk result (HasDelivered home cwd task old new)
   pub untouched : IfErr result (λ e. is_ahead e ≡ true → AreUntouched old new)
-  pub other : IfErr result (λ e. is_of_words e ≡ false)
+  pub other : IfErr result (λ e. is_of_copy e ≡ true)
 
 -- and its lines were printed
 pub record IsCopyAnswer (home cwd : List ℕ) (task : CopyTask) (before after : CommandTold) (answer : Result Done CommandRefusal) : Type 0 where

@@ -1,5 +1,5 @@
 -- The courses of the command's steps: on one lane, on all lanes, and with the output.
-use Rattle.std.proofs.Common.{◌≤◌, ℕ, arith}
+use Rattle.std.proofs.Common.{arith}
 use Rattle.skopeo_outside.specs.LaneTold.{LaneTold, IsLater}
 use Rattle.skopeo_outside.specs.LaneLaws.{later_same, later_then}
 use Rattle.skopeo_outside.specs.Seen.{Seen}

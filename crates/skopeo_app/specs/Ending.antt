@@ -1,7 +1,6 @@
 -- How the command ends: its steps in order, the first refusal counting. Each step says which ends it may come to between
 -- what was told before it and behind it.
-use Rattle.std.specs.Prelude.{◌≡◌, [], List, ℕ, Bool, if◌then◌else◌, Some, None, Result, Ok, Err}
-use Rattle.skopeo_outside.specs.Seen.{Seen}
+use Rattle.std.specs.Prelude.{◌≡◌, [], List, ℕ, Bool, if◌then◌else◌, Some, None, Ok, Err}
 use Rattle.skopeo_outside.specs.Steps.{◌>>=◌, given, Ends}
 use Rattle.skopeo_outside.specs.OnLanes.{SeenStep, on_first}
 use Rattle.transports.specs.declared.report.Copied.{Copied}
@@ -15,7 +14,7 @@ use Rattle.skopeo_app.specs.declared.task.Task.{Task}
 use Rattle.skopeo_app.specs.declared.task.Task.TheVariants.{Page, Copy}
 use Rattle.skopeo_app.specs.Sinks.{Gains}
 use Rattle.skopeo_app.specs.Refusals.{BlamesOutput, IsUnprinted}
-use Rattle.skopeo_app.specs.Courses.{lane_course, seen_course, CommandTold, CommandStep}
+use Rattle.skopeo_app.specs.Courses.{lane_course, seen_course, CommandStep}
 use Rattle.skopeo_app.specs.Task.{task_of}
 use Rattle.skopeo_app.specs.Policy.{policy_end}
 

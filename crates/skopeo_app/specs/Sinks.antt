@@ -1,7 +1,7 @@
 -- What a sink tells, and how a write to it ends.
 use Rattle.std.specs.Prelude.{◌≡◌, ◌≤◌, ◌⊎◌, ◌++◌, List, ℕ, Option}
 use Rattle.std.specs.Option.{option_map}
-use Rattle.skopeo_outside.specs.Outside.{Rose, Told, HasPrefixOf}
+use Rattle.skopeo_outside.specs.Outside.{Rose}
 
 -- a sink: its bytes, and the counts of its writes that failed and that wanted memory
 pub record SinkTold : Type 0 where

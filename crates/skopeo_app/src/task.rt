@@ -1,7 +1,8 @@
 // What the words ask for.
-ghost use Rattle.std.specs.Prelude.{◌≡◌, false, true, max, IfOk, Err, map};
+ghost use Rattle.std.specs.Prelude.{◌≡◌, false, true, IfOk, IfErr, Err, map};
 ghost use Rattle.std.specs.String.{string_bytes};
 ghost use Rattle.skopeo_outside.specs.Steps.{Says};
+ghost use Rattle.skopeo_app.specs.Refusals.{is_output};
 ghost use Rattle.skopeo_app.specs.Courses.{command_course};
 ghost use Rattle.skopeo_app.specs.Task.{place_at, is_folder, folder_in, are_same, apart, lanes_for, plan_of, asks_more, are_built, built, by_path, choice_of, copy_of, unbuilt_at, unbuilt_sync, task_in, IsSound, task_of};
 
@@ -45,6 +46,7 @@ pub enum Task {
 #[tactic(auto, unfolding(skopeo_outside::specs::Steps::Says, crate::specs::Courses::command_course, crate::specs::Task::place_at))]
 fn place_at(alloc: Global, cwd: &str, text: &str) -> Result<Place, CommandRefusal>
     ensures says { Says command_course (place_at cwd.now text.now) result }
+    ensures other { IfErr result (λ e. is_output e ≡ false) }
 {
     match parse_place(alloc, text, cwd) {
         Ok(place) => Ok(place),
@@ -87,6 +89,7 @@ fn apart(alloc: Global, plan: CopyPlan) -> Result<CopyPlan, CommandRefusal>
     ensures apart { IfOk result (λ p. are_same p ≡ false) }
     ensures lanes { IfOk result (λ p. p.lanes ≡ plan.lanes) }
     ensures says { Says command_course (apart plan) result }
+    ensures other { IfErr result (λ e. is_output e ≡ false) }
 {
     if are_same(&plan) {
         let path = Text::copy_of(alloc, folder_in(&plan.source))?;
@@ -114,6 +117,7 @@ fn plan_of(
     ensures apart { IfOk result (λ p. are_same p ≡ false) }
     ensures lanes { IfOk result (λ p. p.lanes ≡ lanes) }
     ensures says { Says command_course (plan_of cwd.now lanes source.now dest.now) result }
+    ensures other { IfErr result (λ e. is_output e ≡ false) }
 {
     let source = place_at(alloc, cwd, source)?;
     let dest = place_at(alloc, cwd, dest)?;
@@ -160,6 +164,7 @@ fn require_built(
 ) -> Result<(), CommandRefusal>
     ensures built { IfOk result (λ _. are_built plan.now ≡ true) }
     ensures says { Says command_course (built common.now passing.now short_names plan.now) result }
+    ensures other { IfErr result (λ e. is_output e ≡ false) }
 {
     if asks_more(common, passing, short_names) {
         return Err(CommandRefusal::NotBuilt(Unbuilt::Option));
@@ -197,6 +202,7 @@ fn copy_of(
 ) -> Result<Task, CommandRefusal>
     ensures folders { IfOk result IsSound }
     ensures says { Says command_course (copy_of cwd.now common.now passing.now quiet short_names source.now dest.now) result }
+    ensures other { IfErr result (λ e. is_output e ≡ false) }
 {
     let plan = plan_of(alloc, cwd, lanes_for(common), source, dest)?;
     require_built(common, passing, short_names, &plan)?;
@@ -212,6 +218,7 @@ fn copy_of(
 #[tactic(auto, using(crate::proofs::TaskLemmas::then_says, crate::proofs::TaskLemmas::then_refuses, crate::proofs::TaskLemmas::says_refusal), unfolding(crate::specs::Task::unbuilt_at))]
 fn unbuilt_at(alloc: Global, cwd: &str, text: &str) -> CommandRefusal
     ensures says { Says {A = Task} command_course (unbuilt_at cwd.now text.now) (Err result) }
+    ensures other { is_output result ≡ false }
 {
     match place_at(alloc, cwd, text) {
         Ok(_) => CommandRefusal::NotBuilt(Unbuilt::Command),
@@ -231,6 +238,7 @@ fn bad_name(alloc: Global, text: &str, fault: RefFault) -> Result<CommandRefusal
 #[tactic(auto, unfolding(skopeo_outside::specs::Steps::Says, crate::specs::Courses::command_course, crate::specs::Task::unbuilt_sync))]
 fn unbuilt_sync(alloc: Global, from: SyncEnd, text: &str) -> CommandRefusal
     ensures says { Says {A = Task} command_course (unbuilt_sync from text.now) (Err result) }
+    ensures other { is_output result ≡ false }
 {
     let SyncEnd::Docker = from else {
         return CommandRefusal::NotBuilt(Unbuilt::Command);
@@ -249,6 +257,7 @@ fn unbuilt_sync(alloc: Global, from: SyncEnd, text: &str) -> CommandRefusal
 fn task_in(alloc: Global, cwd: &str, command: &Command) -> Result<Task, CommandRefusal>
     ensures folders { IfOk result IsSound }
     ensures says { Says command_course (task_in cwd.now command.now) result }
+    ensures other { IfErr result (λ e. is_output e ≡ false) }
 {
     match command {
         Command::Copy {
@@ -283,6 +292,7 @@ fn task_in(alloc: Global, cwd: &str, command: &Command) -> Result<Task, CommandR
 pub fn read_task(alloc: Global, words: &[String], cwd: &str) -> Result<Task, CommandRefusal>
     ensures folders { IfOk result IsSound }
     ensures says { Says command_course (task_of (map string_bytes words.now) cwd.now) result }
+    ensures other { IfErr result (λ e. is_output e ≡ false) }
 {
     match read_words(alloc, words) {
         Ok(command) => task_in(alloc, cwd, &command),
