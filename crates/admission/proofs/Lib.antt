@@ -1,0 +1,3 @@
+pub mod GateLemmas
+pub mod JobLemmas
+pub mod AdmitLemmas

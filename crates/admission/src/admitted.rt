@@ -6,8 +6,10 @@ ghost use Rattle.manifest_v2s2.specs.Image.{image_of};
 ghost use Rattle.transports.specs.Courses.{lane_course};
 ghost use Rattle.admission.specs.Admission.{admitted_of, IsAdmitted, HasJobs};
 
+use crate::gate::judge_image;
 use digest_reader::Job;
 use image_ref::Place;
+use manifest_convert::blobs_of;
 use manifest_v2s2::{Image, Kind};
 use policy_file::Policy;
 use skopeo_outside::{Fetched, Many};
@@ -38,9 +40,12 @@ impl Model for Admitted {
     ghost invariant = { λ a. IsSound (record { policy = a.policy.value; place = a.place.value; manifest = a.manifest; kind = a.kind; image = a.image.value; jobs = a.jobs; signatures = a.signatures }) };
 }
 
+/// No image has more layers.
+const MOST: usize = 4_294_967_278;
+
 /// Judges an image by the list that the policy has for it as it is named. No files and no wires are at hand here: what
 /// comes out are the bytes that were judged.
-#[tactic(auto, unfolding(skopeo_outside::specs::Steps::Says, transports::specs::Courses::lane_course))]
+#[tactic(auto, using(crate::proofs::AdmitLemmas::judged_stops, crate::proofs::AdmitLemmas::judged_goes, crate::proofs::AdmitLemmas::memory_says, crate::proofs::AdmitLemmas::is_sound))]
 pub fn admit(
     alloc: Global,
     policy: &Policy,
@@ -53,8 +58,24 @@ pub fn admit(
     requires image { image_of kind (tree fetched.bytes) ≡ Ok image }
     ensures says { Says lane_course (admitted_of policy.now place.now fetched kind image signatures) result }
 {
-    // to be written
-    Err(Refusal::Memory)
+    if let Err(e) = judge_image(alloc, policy, place) {
+        return Err(e);
+    }
+    if image.layers.len() > MOST {
+        return Err(Refusal::Memory);
+    }
+    let Ok(jobs) = blobs_of(alloc, &image) else {
+        return Err(Refusal::Memory);
+    };
+    Ok(Admitted {
+        manifest: fetched.bytes,
+        kind,
+        jobs,
+        signatures,
+        image: Snapshot::of(&image),
+        policy: Snapshot::of(policy),
+        place: Snapshot::of(place),
+    })
 }
 
 impl Admitted {

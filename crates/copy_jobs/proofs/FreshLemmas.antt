@@ -1,5 +1,5 @@
 -- A lane as it was made.
-use Rattle.std.proofs.Common.{◌≡◌, List, [], ℕ, Option, Some, None, refl, ap, subst}
+use Rattle.std.proofs.Common.{◌≡◌, List, [], ℕ, Option, Some, None, ap, subst}
 use Rattle.skopeo_outside.specs.LaneTold.{LaneTold}
 use Rattle.digest_reader.specs.declared.job.Job.{Job}
 use Rattle.copy_workers.specs.declared.cause.Cause.{Cause}
@@ -11,7 +11,7 @@ use Rattle.transports.specs.Fair.{Works}
 use Rattle.transports.specs.Named.{AddsOnly}
 use Rattle.transports.proofs.SameLemmas.{works_same}
 use Rattle.transports.proofs.WorkLemmas.{adds_same}
-use Rattle.copy_jobs.specs.Lane.{LaneState, WasAsked, IsSound, IsUnasked, IsFresh}
+use Rattle.copy_jobs.specs.Lane.{WasAsked, IsSound, IsFresh}
 
 pub sound_fresh : (lane origin : LaneTold) (source : Source) (dest : Dest) (asked : Answered) → AreApart source dest → origin ≡ lane → IsSound (record { lane = lane; origin = origin; source = source; dest = dest; failure = None; asked = asked })
 sound_fresh lane origin source dest asked apart same = record {

@@ -1,5 +1,5 @@
 -- Lanes that are lent, place by place.
-use Rattle.std.proofs.Common.{◌≡◌, ◌<◌, ◌≤◌, ◌+◌, List, [], ◌∷◌, ◌++◌, ℕ, zero, suc, length, map, All, Option, Some, None, get_or, slice_get, refl, sym, ap, subst, ◌∙◌, append_assoc, length-append, arith}
+use Rattle.std.proofs.Common.{◌≡◌, ◌+◌, List, [], ◌∷◌, ◌++◌, ℕ, zero, suc, length, map, All, Option, Some, None, slice_get, refl, sym, ap, subst, ◌∙◌, append_assoc, length-append, arith}
 use Rattle.skopeo_outside.specs.LaneTold.{LaneTold}
 use Rattle.transports.specs.declared.source.Source.{Source}
 use Rattle.transports.specs.declared.dest.Dest.{Dest}

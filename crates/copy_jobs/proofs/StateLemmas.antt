@@ -1,10 +1,9 @@
 -- A lane of the engine, before and after it is asked for a job.
 use Rattle.std.proofs.Common.{◌≡◌, ◌≢◌, ◌⊎◌, List, [], ◌∷◌, ◌++◌, ℕ, Bool, true, false, cond, ◌==◌, Option, Some, None, Ok, Err, inl, inr, refl, sym, ap, subst, ◌∙◌}
 use Rattle.std.specs.Str.{bytes_eq}
-use Rattle.std.proofs.lemmas.Bool.{eq-eqb}
+use Rattle.std.proofs.lemmas.Bool.{eq-eqb, eqb-true}
 use Rattle.std.proofs.lemmas.Slice.Eq.{bytes_eq-Decides}
 use Rattle.skopeo_outside.specs.LaneTold.{LaneTold, IsLater}
-use Rattle.skopeo_outside.specs.Outside.{Rose}
 use Rattle.digest_reader.specs.declared.job.Job.{Job}
 use Rattle.copy_workers.specs.declared.asked.LaneAnswer.{LaneAnswer}
 use Rattle.copy_workers.specs.Asked.{Answered, Adds, answers_to}
@@ -14,12 +13,13 @@ use Rattle.copy_workers.specs.Lanes.{Keeps}
 use Rattle.transports.specs.declared.source.Source.{Source}
 use Rattle.transports.specs.declared.dest.Dest.{Dest}
 use Rattle.transports.specs.Courses.{blames_earlier}
-use Rattle.transports.specs.StepEnds.{IsDone, FailsBy, FailsFreely}
+use Rattle.transports.specs.StepEnds.{IsDone, FailsBy}
 use Rattle.transports.specs.Has.{HasBlob, KeepsBlobs, IsReported}
 use Rattle.transports.specs.Given.{BlobEnds}
 use Rattle.transports.specs.Fair.{Works}
 use Rattle.transports.specs.Named.{AddsOnly}
 use Rattle.transports.proofs.GivenLemmas.{blob_later, blob_earlier, only_spares}
+use Rattle.transports.proofs.PieceLaws.{fails_alike}
 use Rattle.transports.proofs.HasLemmas.{has_earlier, reported_earlier, reported_later}
 use Rattle.transports.proofs.WorkLemmas.{works_then, works_later, works_only, adds_then, adds_wider}
 use Rattle.copy_jobs.specs.Lane.{LaneState, fault_of, WasAsked, IsSound, lane_lore}
@@ -146,6 +146,19 @@ keeps_failed l lane asked job e answer calm keeps adds = record {
   origin = refl;
 }
 
--- the cause that a lane tells of a job of the same number and size is that of its failure, or want of memory
+-- the cause that a lane tells of a job of the same digest and size is that of its failure, or want of memory
 some_same : (a b : Cause) → Some a ≡ Some b → a ≡ b
 some_same a b e = cc
+
+pub fault_kept : (l : LaneState) (job : Job) (cause : Cause) → IsSound l → fault_of l.failure job ≡ Some cause → FailsBy l.source job cause l.origin l.lane
+fault_kept l job cause so told = by l.failure refl told
+  where
+    of : (f : Job × Cause) → l.failure ≡ Some f → (b s : Bool) → bytes_eq f.0.digest job.digest ≡ b → (f.0.size == job.size) ≡ s → cond b (Some (cond s f.1 why.Memory)) None ≡ Some cause → FailsBy l.source job cause l.origin l.lane
+    of f e true true digest size is = subst (λ x. FailsBy l.source job x l.origin l.lane) (some_same f.1 cause is)
+        (fails_alike l.source f.0 job f.1 l.origin l.lane ((bytes_eq-Decides f.0.digest job.digest).0 digest) (eqb-true f.0.size job.size size) (so.cause f.0 f.1 e))
+    of f e true false digest size is = subst (λ x. FailsBy l.source job x l.origin l.lane) (some_same why.Memory cause is) (inl (record { free = refl; blames = tt }))
+    of f e false s digest size is = let no : None ≡ Some cause = is in cc
+
+    by : (f : Option (Job × Cause)) → l.failure ≡ f → fault_of f job ≡ Some cause → FailsBy l.source job cause l.origin l.lane
+    by None e is = let no : None ≡ Some cause = is in cc
+    by (Some f) e is = of f e (bytes_eq f.0.digest job.digest) (f.0.size == job.size) refl refl is

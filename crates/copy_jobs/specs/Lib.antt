@@ -1,3 +1,4 @@
 pub mod Secured
 pub mod Lane
 pub mod Lent
+pub mod Passed

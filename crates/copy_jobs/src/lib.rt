@@ -4,6 +4,7 @@
 mod carry;
 mod lane;
 mod lend;
+mod pass;
 mod secure;
 
 pub use carry::carry_blob;

@@ -21,5 +21,5 @@ mod stream;
 pub use answer::{Answer, next_piece, open};
 pub use exchanging::exchange;
 pub use law::plain_exchanges;
-pub use location::port_of;
+pub use location::{Lead, lead_at, location_in, port_of};
 pub use pieces::{begin, end, send_piece};

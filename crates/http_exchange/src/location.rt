@@ -3,6 +3,7 @@ ghost use Rattle.std.specs.Prelude.{◌≡◌, ◌&&◌, ◌<◌, ◌≤◌, nat
 ghost use Rattle.std.specs.List.{list_all};
 ghost use Rattle.http_message.specs.Shown.{pair_bytes};
 ghost use Rattle.image_ref.specs.Characters.{is_digit};
+ghost use Rattle.image_ref.specs.Cuts.{cut_at};
 ghost use Rattle.image_ref.specs.Domain.{is_domain, number, is_port};
 ghost use Rattle.http_exchange.specs.Locations.{Lead, are_visible, port_of, target_in, plain_lead, path_lead, lead_of, location_in, lead_in};
 ghost use Rattle.http_exchange.specs.Leads.{shown_lead};
@@ -105,7 +106,7 @@ fn lead_of(alloc: Global, host: &str, port: u16, text: &str) -> Result<Lead, Mem
 }
 
 /// The value of the first header line `Location`.
-fn location_in(headers: &[Pair]) -> Option<&str>
+pub fn location_in(headers: &[Pair]) -> Option<&str>
     ensures { option_map (λ x. x.now) result ≡ location_in (map pair_bytes headers.now) }
 {
     for pair in headers {
@@ -116,12 +117,19 @@ fn location_in(headers: &[Pair]) -> Option<&str>
     None
 }
 
+/// Where the value of a `Location` leads at a host. What follows a number sign is dropped.
+pub fn lead_at(alloc: Global, host: &str, port: u16, value: &str) -> Result<Lead, Memory>
+    ensures { IfOk result (λ lead. shown_lead lead ≡ lead_of host.now port (cut_at 35 value.now).0) }
+{
+    lead_of(alloc, host, port, cut_at(value, '#').0)
+}
+
 /// Where an answer of a host leads, by its header lines.
 pub fn lead_in(alloc: Global, host: &str, port: u16, headers: &[Pair]) -> Result<Lead, Memory>
     ensures { IfOk result (λ lead. shown_lead lead ≡ lead_in host.now port (map pair_bytes headers.now)) }
 {
     match location_in(headers) {
-        Some(value) => lead_of(alloc, host, port, cut_at(value, '#').0),
+        Some(value) => lead_at(alloc, host, port, value),
         None => Ok(Lead::Nowhere),
     }
 }

@@ -34,8 +34,8 @@ fn failing(alloc: Global, call: u64) -> Result<MemFiles, Memory> {
 }
 
 /// Whether a call ended with the fault of the files.
-fn is_files<T>(result: &Result<T, LayoutFault>) -> bool {
-    matches!(result, Err(LayoutFault::Files))
+fn is_files<T>(ended: &Result<T, LayoutFault>) -> bool {
+    matches!(ended, Err(LayoutFault::Files))
 }
 
 /// Reads a manifest of three bytes in files of which a call fails.
@@ -51,7 +51,7 @@ fn read_by(alloc: Global, call: u64) -> Result<usize, LayoutFault> {
 fn tells_a_failing_read_of_a_manifest(rt: HostRuntime) -> Result<(), Fail> {
     assert!(rt; is_files(&read_by(rt.alloc(), 1)));
     assert!(rt; is_files(&read_by(rt.alloc(), 2)));
-    assert!(rt; matches!(read_by(rt.alloc(), 3), Ok(3)));
+    assert_eq!(rt; read_by(rt.alloc(), 3).ok(), Some(3));
     let mut files = failing(rt.alloc(), 1)?;
     let absent = open(rt.alloc())?.read_manifest(rt.alloc(), &mut files);
     assert!(rt; is_files(&absent));
@@ -73,7 +73,7 @@ fn tells_a_failing_read_of_a_signature(rt: HostRuntime) -> Result<(), Fail> {
     for call in 1..6u64 {
         assert!(rt; is_files(&signatures_by(rt.alloc(), call)), "{call}");
     }
-    assert!(rt; matches!(signatures_by(rt.alloc(), 6), Ok(2)));
+    assert_eq!(rt; signatures_by(rt.alloc(), 6).ok(), Some(2));
     Ok(())
 }
 
@@ -152,6 +152,11 @@ fn leaves_a_part_where_a_piece_is_cut_off(rt: HostRuntime) -> Result<(), Fail> {
     Ok(())
 }
 
+/// Whether the files of an instance have its digits before their names.
+fn are_named(shelf: &Shelf) -> bool {
+    shelf.get(SIGNED) == Some(b"one".as_slice()) && shelf.get(INSTANCE) == Some(b"{}".as_slice())
+}
+
 /// Puts signatures and a manifest of an instance, and reads the signatures.
 fn put_instance(
     alloc: Global,
@@ -165,15 +170,13 @@ fn put_instance(
     Ok(signatures.len())
 }
 
-/// The files of an instance have its digits before their names.
 #[test]
 fn names_the_files_of_an_instance(rt: HostRuntime) -> Result<(), Fail> {
     let digest = read_digest(ABC).ok_or("no digest")?;
     let mut files = failing(rt.alloc(), 0)?;
-    let count = put_instance(rt.alloc(), &mut files, &digest);
-    assert!(rt; matches!(count, Ok(2)));
-    assert_eq!(rt; files.shelf.get(SIGNED), Some(b"one".as_slice()));
-    assert_eq!(rt; files.shelf.get(INSTANCE), Some(b"{}".as_slice()));
+    let count = put_instance(rt.alloc(), &mut files, &digest).ok();
+    assert_eq!(rt; count, Some(2));
+    assert!(rt; are_named(&files.shelf));
     Ok(())
 }
 

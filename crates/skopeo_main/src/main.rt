@@ -5,14 +5,17 @@ ghost use Rattle.std.specs.Prelude.{◌≡◌, ◌≤◌, IfOk};
 ghost use Rattle.copy_engine.specs.Lanes.{AreLanes};
 
 mod begin;
-mod files;
+mod notes;
 mod stream;
 
 use begin::{Unbegun, begin, refuse};
-use files::RealFiles;
+use notes::explain;
+use real_files::{Disk, Progress, RealFiles};
 use skopeo_app::skopeo;
 use skopeo_outside::{Idle, Lane};
+use skopeo_words::{Command, read_words};
 use std::alloc::{AllocError, Global};
+use std::io::IsTerminal;
 use std::process::ExitCode;
 use stream::Stream;
 
@@ -21,9 +24,10 @@ const LANES: u32 = 16;
 
 /// Sixteen lanes over real files, each numbered by its place.
 #[tactic(auto, using(crate::proofs::NumberLemmas::one_more, crate::proofs::NumberLemmas::are_lanes))]
-fn make_lanes<'r, R: std::rt::Files + AllocGlobal + Clone + Drop>(
+fn make_lanes<'r, R: Disk>(
     alloc: Global,
     rt: &'r R,
+    progress: &'r Progress<'r, R>,
 ) -> Result<Vec<Lane<Idle, RealFiles<'r, R>>>, AllocError>
     ensures { IfOk result (λ lanes. AreLanes lanes.items) }
 {
@@ -32,26 +36,36 @@ fn make_lanes<'r, R: std::rt::Files + AllocGlobal + Clone + Drop>(
         lanes.push(Lane {
             from: Idle::new(),
             to: Idle::new(),
-            files: RealFiles::new(rt),
+            files: RealFiles::new(rt, progress),
             number,
         })?;
     }
     Ok(lanes)
 }
 
+/// Whether a copy is asked for that may write other lines than those of a refusal.
+fn may_show(alloc: Global, words: &[String]) -> bool {
+    match read_words(alloc, words) {
+        Ok(Command::Copy { quiet, .. }) => !quiet,
+        _ => false,
+    }
+}
+
 fn main(rt: HostRuntime) -> ExitCode {
     let alloc = rt.alloc();
-    let mut err = Stream::new(rt.stderr());
     let begin = match begin(&rt) {
         Ok(begin) => begin,
-        Err(why) => return ExitCode::from(refuse(&mut err, why)),
+        Err(why) => return ExitCode::from(refuse(&rt, &why)),
     };
-    let mut lanes = match make_lanes(alloc, &rt) {
+    let is_watched = rt.stderr().is_terminal() && may_show(alloc, &begin.words);
+    let progress = Progress::new(&rt, is_watched);
+    let mut lanes = match make_lanes(alloc, &rt, &progress) {
         Ok(lanes) => lanes,
-        Err(_) => return ExitCode::from(refuse(&mut err, Unbegun::Memory)),
+        Err(_) => return ExitCode::from(refuse(&rt, &Unbegun::Memory)),
     };
     let mut helper = Idle::new();
-    let mut out = Stream::new(rt.stdout());
+    let mut out = Stream::new(rt.stdout(), &progress);
+    let mut err = Stream::new(rt.stderr(), &progress);
     let status = skopeo(
         &rt,
         alloc,
@@ -63,5 +77,6 @@ fn main(rt: HostRuntime) -> ExitCode {
         &mut out,
         &mut err,
     );
+    explain(&rt, status, lanes.as_slice(), &out);
     ExitCode::from(status)
 }

@@ -1,14 +1,11 @@
 -- The laws of what a source gives, and the order of states.
-use Rattle.std.proofs.Common.{◌≡◌, ◌∙◌, ◌≤◌, ℕ, List, [], Option, Some, None, Result, Ok, IfSome, refl, sym, ap, subst, length, take}
+use Rattle.std.proofs.Common.{◌≡◌, ◌∙◌, ℕ, List, Option, Some, None, Result, IfSome, sym, ap}
 use Rattle.skopeo_outside.specs.Tree.{Tree, file_at}
-use Rattle.skopeo_outside.specs.Folders.{joined}
 use Rattle.skopeo_outside.specs.Outside.{Told}
 use Rattle.skopeo_outside.specs.LaneTold.{LaneTold}
 use Rattle.skopeo_outside.specs.LaneLaws.{told_then}
 use Rattle.skopeo_outside.specs.declared.words.Fetched.{Fetched}
 use Rattle.digest_reader.specs.declared.job.Job.{Job}
-use Rattle.layouts.specs.Bounds.{limited}
-use Rattle.layouts.specs.Names.{manifest_name}
 use Rattle.layouts.specs.Trees.{OnlyIn}
 use Rattle.layouts.specs.Paths.{IsIn, blob_path}
 use Rattle.layouts.proofs.NameLemmas.{blob_in, same_folder}
@@ -22,7 +19,7 @@ use Rattle.transports.specs.declared.refusal.Refusal.{Refusal}
 use Rattle.transports.specs.Places.{AreApart}
 use Rattle.transports.specs.Blobs.{looked_at}
 use Rattle.transports.specs.Given.{SameIn, Spares, ManifestEnds, SignaturesEnd, BlobEnds, IsFrontIn, GaveFront, HasGiven}
-use Rattle.transports.specs.Has.{IsUntouched, OnlyAtDest}
+use Rattle.transports.specs.Has.{OnlyAtDest}
 
 pub spares_then : (s : Source) (a b c : LaneTold) → Spares s a b → Spares s b c → Spares s a c
 unfolding Spares

@@ -1,15 +1,11 @@
 -- The laws of what a destination has.
-use Rattle.std.proofs.Common.{◌≡◌, ◌≢◌, ◌∙◌, ℕ, List, Option, Some, None, sym, refl}
-use Rattle.skopeo_outside.specs.Tree.{Tree}
-use Rattle.skopeo_outside.specs.Outside.{Told}
+use Rattle.std.proofs.Common.{◌∙◌}
 use Rattle.skopeo_outside.specs.LaneTold.{LaneTold, IsLater}
-use Rattle.skopeo_outside.specs.LaneLaws.{told_then, later_then}
+use Rattle.skopeo_outside.specs.LaneLaws.{told_then}
 use Rattle.digest_reader.specs.declared.job.Job.{Job}
-use Rattle.layouts.specs.Trees.{OnlyIn}
-use Rattle.layouts.specs.Paths.{IsIn, IsManifestPath}
 use Rattle.transports.specs.declared.dest.Dest.{Dest}
 use Rattle.transports.specs.declared.dest.Dest.TheVariants.{Folder}
-use Rattle.transports.specs.Has.{StandsIn, HasBlob, KeepsBlobs, KeepsAllBlobs, IsReported, IsUntouched}
+use Rattle.transports.specs.Has.{StandsIn, HasBlob, KeepsBlobs, IsReported, IsUntouched}
 
 -- what it has by two states it has by wider ones
 pub has_earlier : (dest : Dest) (job : Job) (a b c : LaneTold) → IsLater a b → HasBlob dest job b c → HasBlob dest job a c

@@ -1,4 +1,13 @@
+pub mod ToldLemmas
 pub mod SameLemmas
 pub mod GivenLemmas
 pub mod HasLemmas
+pub mod FolderLemmas
+pub mod BlobLemmas
+pub mod DigestLemmas
+pub mod UploadLemmas
+pub mod ReadyLemmas
+pub mod BesideLemmas
+pub mod ImageLemmas
 pub mod WorkLemmas
+pub mod PieceLaws

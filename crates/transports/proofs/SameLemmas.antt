@@ -1,17 +1,14 @@
 -- A step that touches nothing meets each relation of what it leaves.
-use Rattle.std.proofs.Common.{◌≡◌, ◌⊎◌, ◌++◌, ℕ, List, [], ◌∷◌, Option, Some, None, Result, Ok, Err, take, inl, inr, refl, sym, ap, subst}
+use Rattle.std.proofs.Common.{◌≡◌, ◌⊎◌, ◌++◌, ℕ, List, [], ◌∷◌, None, Err, inl, inr, refl, sym, ap, subst}
 use Rattle.skopeo_outside.specs.Tree.{Tree, file_at}
-use Rattle.skopeo_outside.specs.Outside.{Told}
 use Rattle.skopeo_outside.specs.LaneTold.{LaneTold, IsLater}
 use Rattle.skopeo_outside.specs.LaneLaws.{later_same, told_same}
-use Rattle.skopeo_outside.specs.Seen.{OnEach}
 use Rattle.skopeo_outside.proofs.PlaceLemmas.{each_self}
-use Rattle.skopeo_outside.specs.Steps.{Step, Course, Ends}
+use Rattle.skopeo_outside.specs.Steps.{Step, Ends}
 use Rattle.digest_reader.specs.declared.job.Job.{Job}
-use Rattle.layouts.specs.Trees.{OnlyIn, OnlyAt, SameOrGone}
+use Rattle.layouts.specs.Trees.{OnlyIn, OnlyAt}
 use Rattle.layouts.specs.Destination.{ImageFirst, ManifestsFirst}
 use Rattle.layouts.specs.Paths.{IsIn, blob_part}
-use Rattle.copy_workers.specs.declared.cause.Cause.{Cause}
 use Rattle.copy_workers.specs.declared.cause.Cause.TheVariants as cause
 use Rattle.transports.specs.declared.source.Source.{Source}
 use Rattle.transports.specs.declared.source.Source.TheVariants as source
@@ -23,9 +20,9 @@ use Rattle.transports.specs.declared.blob.Upload.{Upload}
 use Rattle.transports.specs.Courses.{lane_course}
 use Rattle.transports.specs.StepEnds.{FailsFreely, FailsBy}
 use Rattle.transports.specs.Given.{SameIn, Spares}
-use Rattle.transports.specs.Has.{IsUntouched, OnlyAtDest, KeepsBlobs, KeepsAllBlobs, RemovesInOrder, TakesLate}
+use Rattle.transports.specs.Has.{IsUntouched, OnlyAtDest, KeepsBlobs, RemovesInOrder, TakesLate}
 use Rattle.transports.specs.Writes.{Spot, AtPath, KeepsManifests, KeepsOthers, WritesNone, WritesOnly, WritesNowhere}
-use Rattle.transports.specs.Fair.{IsFair, IsFairOn, IsWork, Works, AllWork}
+use Rattle.transports.specs.Fair.{IsFair, IsFairOn, Works, AllWork}
 use Rattle.transports.specs.Uploads.{Holds, TookFront, TookSome, OnlyPart, SamePart, IsLeft}
 
 pub later_now : (a : LaneTold) → IsLater a a

@@ -1,16 +1,16 @@
 -- What a lane does at a destination, one piece of work behind the other.
-use Rattle.std.proofs.Common.{◌≡◌, ◌≢◌, ◌⊎◌, ◌∙◌, ℕ, List, Option, Some, None, Contains, inl, inr, refl, sym, subst}
+use Rattle.std.proofs.Common.{◌≡◌, ◌⊎◌, ◌∙◌, ℕ, List, Option, Some, None, Contains, inl, inr, refl, sym, subst}
 use Rattle.skopeo_outside.specs.Tree.{Tree, file_at}
 use Rattle.skopeo_outside.specs.Outside.{Told}
 use Rattle.skopeo_outside.specs.LaneTold.{LaneTold, IsLater}
 use Rattle.skopeo_outside.specs.LaneLaws.{told_then, told_same, later_then}
 use Rattle.layouts.specs.Trees.{SameOrGone, OnlyIn}
-use Rattle.layouts.specs.Paths.{IsIn, IsManifestPath, blob_path}
+use Rattle.layouts.specs.Paths.{IsIn, blob_path}
 use Rattle.transports.specs.declared.dest.Dest.{Dest}
 use Rattle.transports.specs.declared.dest.Dest.TheVariants.{Folder}
 use Rattle.transports.specs.Has.{OnlyAtDest}
 use Rattle.transports.specs.Writes.{KeepsManifests, WritesNone, Spot, AtPath, IsWrite, KeepsOthers, WritesOnly, IsFileWrite, ShowsWrite}
-use Rattle.transports.specs.Fair.{IsBlobUnder, IsPartOf, IsBeside, IsFair, IsFairOn, IsWork, Works}
+use Rattle.transports.specs.Fair.{IsFair, IsFairOn, Works}
 use Rattle.transports.specs.Named.{AddsIn, AddsOnly}
 
 same_then : (a b c : Tree) (q : List ℕ) → SameOrGone a b q → SameOrGone b c q → SameOrGone a c q

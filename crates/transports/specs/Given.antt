@@ -92,6 +92,10 @@ GaveAll (Folder path) job old new given = Told (IsAllIn (blob_path path job.dige
 abbrev pub count_of : Blob → ℕ
 count_of (blob.File path count) = count
 
+-- the path of a blob's file
+abbrev pub path_of : Blob → List ℕ
+path_of (blob.File path count) = path
+
 -- a blob that is being read is this job's at this source
 unfoldable pub IsBlobOf : Source → Job → Blob → Type 0
 IsBlobOf (Folder path) job (blob.File at count) = at ≡ blob_path path job.digest

@@ -3,6 +3,8 @@ pub mod Refusals
 pub mod Courses
 pub mod Blobs
 pub mod Given
+pub mod Calls
+pub mod Beside
 pub mod Has
 pub mod Writes
 pub mod Fair

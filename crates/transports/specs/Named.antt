@@ -18,10 +18,14 @@ use Rattle.transports.specs.declared.dest.Dest.TheVariants.{Folder}
 unfoldable pub IsPrepared : Dest → LaneTold → LaneTold → Type 0
 IsPrepared (Folder path) old new = Told (IsReady path) old.files.tree new.files.tree
 
+-- each signature stands in a folder, numbered from 1
+abbrev pub AreSignedIn : List ℕ → Option (List ℕ) → List (List ℕ) → Tree → Type 0
+AreSignedIn folder part signatures tree =
+    (k : ℕ) (s : List ℕ) → slice_get signatures k ≡ Some s → file_at tree (signature_at folder (prefix_of part) (k + 1)) ≡ Some s
+
 -- the signatures stand, of the image or of an instance by its digest
 unfoldable pub AreSigned : Dest → Option (List ℕ) → List (List ℕ) → LaneTold → LaneTold → Type 0
-AreSigned (Folder path) part signatures old new =
-    Told (λ a b. (k : ℕ) (s : List ℕ) → slice_get signatures k ≡ Some s → file_at b (signature_at path (prefix_of part) (k + 1)) ≡ Some s) old.files.tree new.files.tree
+AreSigned (Folder path) part signatures old new = Told (λ a b. AreSignedIn path part signatures b) old.files.tree new.files.tree
 
 -- the manifest stands, of the image or of an instance by its digest
 unfoldable pub IsNamed : Dest → Option (List ℕ) → List ℕ → LaneTold → LaneTold → Type 0

@@ -1,5 +1,5 @@
 -- Which refusals may come at any step, and what these show.
-use Rattle.std.specs.Prelude.{◌≡◌, ℕ, Bool, true, false}
+use Rattle.std.specs.Prelude.{ℕ, Bool, true, false}
 use Rattle.skopeo_outside.specs.LaneTold.{LaneTold, BlamesFiles, BlamesWire}
 use Rattle.copy_workers.specs.declared.cause.Cause.{Cause}
 use Rattle.copy_workers.specs.declared.cause.Cause.TheVariants as cause

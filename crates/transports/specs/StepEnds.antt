@@ -1,5 +1,5 @@
 -- How steps at a source and at a destination end.
-use Rattle.std.specs.Prelude.{◌≡◌, ◌⊎◌, ℕ, List, Option, true, Result, Ok, Err, ⊤}
+use Rattle.std.specs.Prelude.{◌≡◌, ◌⊎◌, ℕ, List, true, Ok, Err, ⊤}
 use Rattle.skopeo_outside.specs.LaneTold.{LaneTold}
 use Rattle.skopeo_outside.specs.OnLanes.{LaneStep}
 use Rattle.digest_reader.specs.declared.job.Job.{Job}

@@ -16,9 +16,9 @@ use Rattle.transports.specs.declared.dest.Dest.TheVariants.{Folder}
 use Rattle.transports.specs.Blobs.{IsWhole}
 use Rattle.transports.specs.Given.{GaveFront}
 
--- an upload that is this job's at this destination, by the lane of this number
-unfoldable pub IsUploadOf : Dest → Job → ℕ → Upload → Type 0
-IsUploadOf (Folder path) job lane (upload.File at) = at ≡ blob_part path job.digest lane
+-- an upload that is this job's at this destination. (Place for where a registry wants the rest.)
+unfoldable pub IsUploadOf : Dest → Job → Upload → Type 0
+IsUploadOf (Folder path) job upload.File = Unit {0}
 
 -- the part of a blob holds these bytes, and all other files are as they were
 pub record IsPartHeld (part bytes : List ℕ) (old new : Tree) : Type 0 where
@@ -49,9 +49,10 @@ SamePart (Folder path) job old new =
 
 -- the upload holds these bytes of the job's blob
 pub record Holds (dest : Dest) (job : Job) (u : Upload) (old new : LaneTold) (bytes : List ℕ) : Type 0 where
-  pub of_job : IsUploadOf dest job old.number u
+  pub of_job : IsUploadOf dest job u
   pub took : TookFront dest job old new bytes
   pub held : HeldAt dest job new bytes
+  pub number : new.number ≡ old.number
 
 -- the upload holds the whole blob
 pub record HoldsWhole (dest : Dest) (job : Job) (u : Upload) (now : LaneTold) : Type 0 where

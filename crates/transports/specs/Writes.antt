@@ -1,5 +1,5 @@
 -- The manifests that a call wrote, on any lane: one case for each sort of place.
-use Rattle.std.specs.Prelude.{◌≡◌, ◌≢◌, ◌⊎◌, ℕ, List, Option, Some, None}
+use Rattle.std.specs.Prelude.{◌≡◌, ◌≢◌, ◌⊎◌, ℕ, List, Option, Some}
 use Rattle.skopeo_outside.specs.Tree.{Tree, file_at}
 use Rattle.skopeo_outside.specs.Folders.{joined}
 use Rattle.skopeo_outside.specs.Outside.{Told}

@@ -10,6 +10,6 @@ pub enum Blob {
 /// A blob that is written at its destination and not named yet, one variant a kind of destination.
 #[derive(Debug, Drop)]
 pub enum Upload {
-    /// The part file of a lane.
-    File(Text),
+    /// The part file that the lane's number and the blob's digest name.
+    File,
 }

@@ -14,18 +14,20 @@ ghost use Rattle.transports.specs.Uploads.{Holds, HoldsWhole, TookSome, OnlyPart
 ghost use Rattle.transports.specs.Writes.{WritesNone, WritesOnly, spot_of};
 
 use crate::blob::Upload;
-use crate::refusal::Refusal;
+use crate::refusal::{Part, Refusal};
+use crate::{folder_dest, folder_image};
 use copy_workers::Cause;
 use digest_reader::Job;
 use image_ref::{Digest, Place};
-use skopeo_outside::{Files, Lane, Many, Text, Wire};
+use layouts::DirImage;
+use skopeo_outside::{Files, Lane, Many, Wire};
 use std::alloc::Global;
 
 /// Where an image goes to, one variant a kind that is built.
 #[derive(Debug, Drop)]
 pub enum Dest {
     /// A folder of the transport `dir`.
-    Folder(Text),
+    Folder(DirImage),
 }
 
 impl Dest {
@@ -34,12 +36,14 @@ impl Dest {
     pub fn at(alloc: Global, place: &Place) -> Result<Dest, Refusal>
         ensures says { Says lane_course (dest_at place.now) result }
     {
-        // to be written
-        Err(Refusal::Memory)
+        match place {
+            Place::Dir(_) => Ok(Dest::Folder(DirImage::open(alloc, place)?)),
+            Place::Docker(_) => Err(Refusal::NotBuilt(Part::Place)),
+            Place::Oci(_, _) => Err(Refusal::NotBuilt(Part::Place)),
+        }
     }
 
     /// Empties what may be replaced, its manifests first, and makes the destination.
-    #[tactic(auto, using(crate::proofs::SameLemmas::ends_at_once, crate::proofs::SameLemmas::works_same, crate::proofs::SameLemmas::order_same, crate::proofs::SameLemmas::late_same))]
     pub fn prepare<W: Wire, F: Files>(
         &self,
         alloc: Global,
@@ -52,8 +56,9 @@ impl Dest {
         ensures late { TakesLate self.now lane.old lane.new }
         ensures order { OnErr result (RemovesInOrder self.now lane.old lane.new) }
     {
-        // to be written
-        Err(Refusal::Memory)
+        match self {
+            Dest::Folder(folder) => folder_image::prepare(alloc, lane, folder),
+        }
     }
 
     /// Whether the destination reports a job's blob. A folder reports none.
@@ -70,12 +75,12 @@ impl Dest {
         ensures others { KeepsBlobs self.now job.now lane.old lane.new }
         ensures works { Works self.now lane.old lane.new }
     {
-        // to be written
-        Err(Cause::Memory)
+        match self {
+            Dest::Folder(_) => Ok(false),
+        }
     }
 
     /// Makes room for a job's blob, of which nothing stands yet.
-    #[tactic(auto, using(crate::proofs::SameLemmas::fails_freely, crate::proofs::SameLemmas::part_same, crate::proofs::SameLemmas::later_now))]
     pub fn begin_blob<W: Wire, F: Files>(
         &self,
         alloc: Global,
@@ -88,12 +93,12 @@ impl Dest {
         ensures same { OnErr result (lane.new.files.tree ≡ lane.old.files.tree) }
         ensures later { IsLater lane.old lane.new }
     {
-        // to be written
-        Err(Cause::Memory)
+        match self {
+            Dest::Folder(folder) => folder_dest::begin_blob(alloc, lane, folder, job),
+        }
     }
 
     /// Adds a piece of 1 to 65,536 bytes to a job's blob. A fault may leave some of its first bytes there.
-    #[tactic(auto, using(crate::proofs::SameLemmas::fails_freely, crate::proofs::SameLemmas::part_same, crate::proofs::SameLemmas::took_none, crate::proofs::SameLemmas::later_now))]
     pub fn add_piece<W: Wire, F: Files>(
         &self,
         alloc: Global,
@@ -112,12 +117,12 @@ impl Dest {
             → OnlyPart self.now job.now lane.old lane.new }
         ensures later { IsLater lane.old lane.new }
     {
-        // to be written
-        Err(Cause::Memory)
+        match self {
+            Dest::Folder(folder) => folder_dest::add_piece(alloc, lane, folder, job, upload, piece),
+        }
     }
 
     /// Names a job's blob, which was compared.
-    #[tactic(auto, using(crate::proofs::SameLemmas::fails_freely, crate::proofs::SameLemmas::works_same, crate::proofs::SameLemmas::keeps_same, crate::proofs::SameLemmas::part_same))]
     pub fn keep_blob<W: Wire, F: Files>(
         &self,
         alloc: Global,
@@ -136,12 +141,12 @@ impl Dest {
         ensures same { OnErr result (lane.new.files.tree ≡ lane.old.files.tree) }
         ensures part { OnErr result (OnlyPart self.now job.now lane.old lane.new) }
     {
-        // to be written
-        Err(Cause::Memory)
+        match self {
+            Dest::Folder(folder) => folder_dest::keep_blob(alloc, lane, folder, job, upload),
+        }
     }
 
     /// Gives up a job's blob, in which other bytes were found.
-    #[tactic(auto, using(crate::proofs::SameLemmas::fails_freely, crate::proofs::SameLemmas::part_same, crate::proofs::SameLemmas::later_now))]
     pub fn drop_blob<W: Wire, F: Files>(
         &self,
         alloc: Global,
@@ -157,12 +162,12 @@ impl Dest {
         ensures same { OnErr result (lane.new.files.tree ≡ lane.old.files.tree) }
         ensures later { IsLater lane.old lane.new }
     {
-        // to be written
-        Err(Cause::Memory)
+        match self {
+            Dest::Folder(folder) => folder_dest::drop_blob(alloc, lane, folder, job),
+        }
     }
 
     /// Writes the signatures of the image, or of its instance with this digest.
-    #[tactic(auto, using(crate::proofs::SameLemmas::ends_at_once, crate::proofs::SameLemmas::works_same))]
     pub fn put_signatures<W: Wire, F: Files>(
         &self,
         alloc: Global,
@@ -179,12 +184,14 @@ impl Dest {
         ensures blobs { KeepsAllBlobs self.now lane.old lane.new }
         ensures works { Works self.now lane.old lane.new }
     {
-        // to be written
-        Err(Refusal::Memory)
+        match self {
+            Dest::Folder(folder) => folder_image::put_signatures(
+                alloc, lane, folder, part, signatures,
+            ),
+        }
     }
 
     /// Writes the manifest of the image, or of its instance with this digest, by its media type.
-    #[tactic(auto, using(crate::proofs::SameLemmas::ends_at_once, crate::proofs::SameLemmas::works_same, crate::proofs::SameLemmas::only_same, crate::proofs::SameLemmas::fair_same, crate::proofs::SameLemmas::writes_same))]
     pub fn put_manifest<W: Wire, F: Files>(
         &self,
         alloc: Global,
@@ -209,7 +216,10 @@ impl Dest {
         ensures only { OnlyAtDest self.now lane.old lane.new }
         ensures fair { IsFairOn self.now lane.old.number lane.old lane.new }
     {
-        // to be written
-        Err(Refusal::Memory)
+        match self {
+            Dest::Folder(folder) => folder_image::put_manifest(
+                alloc, lane, folder, part, media, bytes,
+            ),
+        }
     }
 }

@@ -3,10 +3,14 @@
 
 mod blob;
 mod dest;
+mod folder_dest;
+mod folder_image;
+mod folder_source;
 mod plan;
 mod refusal;
 mod report;
 mod source;
+mod stopped;
 
 pub use blob::{Blob, Upload};
 pub use copy_workers::{BlobMismatch, Cause};

@@ -1,4 +1,4 @@
-//! Rows as data: each line of the input is a message, an exchange or a request to a registry, and is printed with what it comes to.
+//! Rows as data: each line of the input is a message, an exchange or a request, and is printed with what it comes to.
 #![tactic(auto)]
 
 mod bodies;

@@ -16,8 +16,8 @@ fn type_of(alloc: Global, column: &str) -> Result<Option<Text>, Memory> {
     Ok(Some(Text::copy_of(alloc, column)?))
 }
 
-/// The request of a row: its method, its target, whether it says which kinds of manifest are taken, and the type and the length of
-/// its body, where they are no dash.
+/// The request of a row: its method, its target, whether it says which kinds of manifest are taken, and the type and the length
+/// of its body, where they are no dash.
 fn request_of(alloc: Global, input: &str) -> Result<Request, Memory> {
     let Ok(method) = Method::from_bytes(alloc, column(input, 0).as_bytes()) else {
         return Err(Memory);

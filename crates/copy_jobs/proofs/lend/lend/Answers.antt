@@ -1,4 +1,4 @@
-use Rattle.std.proofs.Common.{◌≡◌, ◌+◌, length, sym, subst, arith}
+use Rattle.std.proofs.Common.{◌+◌, length, sym, subst, arith}
 use Rattle.copy_jobs.specs.Lent.{AreLent}
 use Rattle.copy_jobs.proofs.LentLemmas.{lent_more, lent_count}
 use Rattle.copy_jobs.proofs.lend.lend.Goals as goal
