@@ -7,3 +7,4 @@ pub mod ImageLemmas
 pub mod TellingLemmas
 pub mod RunLemmas
 pub mod CommandLemmas
+pub mod NumberLemmas

@@ -2,6 +2,7 @@ pub mod Sinks
 pub mod Refusals
 pub mod Courses
 pub mod Task
+pub mod Numbered
 pub mod Policy
 pub mod Headline
 pub mod Ending
