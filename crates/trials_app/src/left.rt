@@ -19,11 +19,13 @@ fn add_new(alloc: Global, all: &mut Shelf, shelf: &Shelf) -> Result<(), Memory> 
     Ok(())
 }
 
-/// What stands in `/w/dst` on any lane; of a path that several have, what the first of them has.
-pub fn gather(alloc: Global, lanes: &[Lane<Idle, MemFiles>]) -> Result<Shelf, Memory> {
+/// The first lane's files, and what else stands in `/w/dst` on another; of a path that several have, the first one's.
+pub fn gather(alloc: Global, mut lanes: Vec<Lane<Idle, MemFiles>>) -> Result<Shelf, Memory> {
     let mut all = Shelf::new(alloc);
-    for lane in lanes {
-        add_new(alloc, &mut all, &lane.files.shelf)?;
+    while let Some(lane) = lanes.pop() {
+        let mut shelf = lane.files.shelf;
+        add_new(alloc, &mut shelf, &all)?;
+        all = shelf;
     }
     Ok(all)
 }
