@@ -54,3 +54,16 @@ lanes_later x y later are = record {
   few = (let n = later.count in let f = are.few in omega arith);
   numbered = λ place b at. (let m = lane_at y x place b (sym later.count) at in (later.each place m.0 b m.1 at).number ∙ are.numbered place m.0 m.1);
 }
+
+pub first_both : (R S : LaneTold → LaneTold → Type 0) → (x y : List LaneTold) → OnFirst R x y → OnFirst S x y → OnFirst (λ a b. R a b × S a b) x y
+first_both R S [] y r s = tt
+first_both R S (a ∷ x) [] r s = r
+first_both R S (a ∷ x) (b ∷ y) r s = (r, s)
+
+-- what holds of the lanes behind the first holds of them still where the first alone was touched
+pub others_kept : (R : LaneTold → LaneTold → Type 0) (x y z : List LaneTold) → OnEach (λ place a b. (place ≡ 0) ⊎ R a b) x y → KeepsFrom 1 y z → OnEach (λ place a b. (place ≡ 0) ⊎ R a b) x z
+others_kept R x y z each kept = record { count = kept.same ∙ each.count; each = by }
+  where
+    by : (place : ℕ) (a c : LaneTold) → slice_get x place ≡ Some a → slice_get z place ≡ Some c → (place ≡ 0) ⊎ R a c
+    by zero a c ea ec = inl refl
+    by (suc place) a c ea ec = each.each (suc place) a c ea (sym (kept.rest (suc place) (omega arith)) ∙ ec)

@@ -14,6 +14,7 @@ use Rattle.transports.specs.declared.refusal.Refusal.{Refusal}
 use Rattle.transports.specs.Places.{dest_at}
 use Rattle.transports.specs.Courses.{lane_course}
 use Rattle.transports.specs.StepEnds.{taking, putting}
+use Rattle.admission.specs.Admission.{Admission}
 use Rattle.admission.specs.Walk.{admission}
 use Rattle.copy_jobs.specs.Secured.{JobsEnd}
 use Rattle.copy_engine.specs.Report.{copied_of}
@@ -33,11 +34,17 @@ readying from to jobs = do
   _ ← on_first lane_course (taking to)
   securing from to jobs
 
--- one image. (Place for conversion, ahead of the destination; and for instances, each before its list.)
+-- an image that was admitted: the destination and the jobs, then its signatures and its manifest. (Place for conversion,
+-- ahead of the destination.)
+unfoldable pub placing : Source → Dest → Admission → SeenStep Refusal Copied
+placing from to image = do
+  _ ← readying from to image.jobs
+  _ ← on_first lane_course (putting to)
+  given (Ok (copied_of image))
+
+-- one image. (Place for instances, each before its list.)
 unfoldable pub image_end : CopyPlan → PolicyLists → SeenStep Refusal Copied
 image_end plan policy = do
   to ← given (dest_at plan.dest)
   it ← on_first lane_course (admission plan policy)
-  _ ← readying it.from to it.image.jobs
-  _ ← on_first lane_course (putting to)
-  given (Ok (copied_of it.image))
+  placing it.from to it.image
