@@ -26,11 +26,11 @@ use Rattle.transports.specs.StepEnds.{reading, taking, putting}
 use Rattle.transports.proofs.HasLemmas.{untouched_then}
 use Rattle.transports.proofs.SameLemmas.{untouched_same}
 use Rattle.admission.specs.Parts.{kind_in, image_in}
-use Rattle.admission.specs.Admission.{admitted_of}
+use Rattle.admission.specs.Admission.{Admission, admitted_of}
 use Rattle.admission.specs.Walk.{found, admission}
 use Rattle.copy_jobs.specs.Secured.{JobsEnd}
 use Rattle.copy_engine.specs.Report.{copied_of}
-use Rattle.copy_engine.specs.Walk.{securing, readying, image_end}
+use Rattle.copy_engine.specs.Walk.{securing, readying, placing, image_end}
 use Rattle.copy_engine.proofs.SameLemmas.{untouched_each}
 use Rattle.skopeo_app.specs.declared.refusal.CommandRefusal.TheVariants.{Image}
 use Rattle.skopeo_app.specs.Refusals.{is_ahead}
@@ -189,26 +189,26 @@ put_late to copied e x y ahead end =
     refused_then (on_first lane_course (putting to)) (λ d. given (Ok copied)) (λ s t. length t.lanes ≡ 0) e
     (λ s m t v one two. (let no : ◌≡◌ {A = Result Copied Refusal} (Err e) (Ok copied) = two.1 in cc)) (λ s t one. put_at to e s t ahead one) x y end
 
-tail_rests : (from : Source) (to : Dest) (jobs : List Job) (copied : Copied) (e : Refusal) (x y : Seen) → 0 < length y.lanes → is_ahead (Image e) ≡ true
-    → (readying from to jobs >>= (λ d. on_first lane_course (putting to) >>= (λ u. given (Ok copied)))) x y (Err e) → Untouched x y
-tail_rests from to jobs copied e x y some ahead end =
-    refused_then (readying from to jobs) (λ d. on_first lane_course (putting to) >>= (λ u. given (Ok copied))) (λ s t. 0 < length t.lanes → Untouched s t) e
-    (λ s m t v one two some. (let none = put_late to copied e m t ahead two in absurd (omega (arith, none, some)))) (λ s t one some. readying_rests from to jobs e s t ahead one) x y end some
+placing_rests : (from : Source) (to : Dest) (image : Admission) (e : Refusal) (x y : Seen) → 0 < length y.lanes → is_ahead (Image e) ≡ true → placing from to image x y (Err e) → Untouched x y
+unfolding placing
+placing_rests from to image e x y some ahead end =
+    refused_then (readying from to image.jobs) (λ d. on_first lane_course (putting to) >>= (λ u. given (Ok (copied_of image)))) (λ s t. 0 < length t.lanes → Untouched s t) e
+    (λ s m t v one two some. (let none = put_late to (copied_of image) e m t ahead two in absurd (omega (arith, none, some)))) (λ s t one some. readying_rests from to image.jobs e s t ahead one) x y end some
 
 image_rests : (plan : CopyPlan) (policy : PolicyLists) (to : Dest) (e : Refusal) (x y : Seen) → 0 < length y.lanes → is_ahead (Image e) ≡ true
-    → (on_first lane_course (admission plan policy) >>= (λ it. readying it.from to it.image.jobs >>= (λ d. on_first lane_course (putting to) >>= (λ u. given (Ok (copied_of it.image)))))) x y (Err e) → Untouched x y
+    → (on_first lane_course (admission plan policy) >>= (λ it. placing it.from to it.image)) x y (Err e) → Untouched x y
 image_rests plan policy to e x y some ahead end =
-    refused_then (on_first lane_course (admission plan policy)) (λ it. readying it.from to it.image.jobs >>= (λ d. on_first lane_course (putting to) >>= (λ u. given (Ok (copied_of it.image)))))
+    refused_then (on_first lane_course (admission plan policy)) (λ it. placing it.from to it.image)
     (λ s t. 0 < length t.lanes → Untouched s t) e
     (λ s m t it one two some. each_then (λ place a b. IsUntouched a b) (λ place a b. IsUntouched a b) (λ place a b. IsUntouched a b) (λ place a b c p q. untouched_then a b c p q) s.lanes m.lanes t.lanes
         (on_each (admission plan policy) s m (Ok it) (λ a b v. rests_admission plan policy a b (Ok it) (value_of (admission plan policy) a b it v)) one)
-        (tail_rests it.from to it.image.jobs (copied_of it.image) e m t some ahead two))
+        (placing_rests it.from to it.image e m t some ahead two))
     (λ s t one some. on_each (admission plan policy) s t (Err e) (λ a b v. rests_admission plan policy a b (Err e) (not_free (admission plan policy) a b e (ahead_free e ahead) v)) one) x y end some
 
 walk_rests : (plan : CopyPlan) (policy : PolicyLists) (e : Refusal) (x y : Seen) → 0 < length y.lanes → is_ahead (Image e) ≡ true → image_end plan policy x y (Err e) → Untouched x y
 unfolding image_end given
 walk_rests plan policy e x y some ahead end =
-    refused_then (given (dest_at plan.dest)) (λ to. on_first lane_course (admission plan policy) >>= (λ it. readying it.from to it.image.jobs >>= (λ d. on_first lane_course (putting to) >>= (λ u. given (Ok (copied_of it.image))))))
+    refused_then (given (dest_at plan.dest)) (λ to. on_first lane_course (admission plan policy) >>= (λ it. placing it.from to it.image))
     (λ s t. 0 < length t.lanes → Untouched s t) e
     (λ s m t to one two some. subst (λ v. Untouched v t) (one.0) (image_rests plan policy to e m t some ahead two))
     (λ s t one some. subst (λ v. Untouched s v) (sym one.0) (untouched_each s.lanes)) x y end some

@@ -20,7 +20,7 @@ use Rattle.skopeo_app.specs.Refusals.{is_memory}
 use Rattle.skopeo_app.specs.Courses.{lane_course}
 use Rattle.skopeo_app.specs.Policy.{usual_path, or_invalid, policy_from, policy_file, policy_end}
 use Rattle.skopeo_app.specs.Headline.{SaysPolicy, Counts, first_tree}
-use Rattle.skopeo_app.specs.Calls.{IsQuiet, ReadsPolicy, ReadsFirst}
+use Rattle.skopeo_app.specs.Reads.{IsQuiet, ReadsPolicy, ReadsFirst}
 use Rattle.skopeo_app.proofs.PolicyLemmas.{quiet_same}
 
 bounded_is : (most : ℕ) (file : Option (List ℕ)) (bytes : List ℕ) → bounded_by most file ≡ Some bytes → file ≡ Some bytes

@@ -27,7 +27,7 @@ use Rattle.admission.specs.Admission.{Admission}
 use Rattle.copy_engine.specs.Headline.{IsOfPlan, IsCopied, ImageHeadline}
 use Rattle.copy_engine.specs.Stops.{IsTouched, Leaves, IsGivenUp}
 use Rattle.copy_engine.specs.Delivered.{Delivers}
-use Rattle.skopeo_app.specs.Calls.{IsQuiet}
+use Rattle.skopeo_app.specs.Reads.{IsQuiet}
 use Rattle.skopeo_app.proofs.PolicyLemmas.{quiet_later, quiet_untouched}
 
 -- a relation of told trees, from the same tree on

@@ -8,3 +8,4 @@ pub mod TellingLemmas
 pub mod RunLemmas
 pub mod CommandLemmas
 pub mod NumberLemmas
+pub mod CompleteLemmas

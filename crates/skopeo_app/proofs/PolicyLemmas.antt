@@ -25,7 +25,7 @@ use Rattle.skopeo_app.specs.declared.task.PolicyChoice.TheVariants.{Anything, Na
 use Rattle.skopeo_app.specs.Refusals.{is_free, is_of_copy}
 use Rattle.skopeo_app.specs.Courses.{lane_course, shows_earlier}
 use Rattle.skopeo_app.specs.Policy.{system_path, user_path, usual_path, or_invalid, policy_from, policy_file, policy_end}
-use Rattle.skopeo_app.specs.Calls.{stopped, IsQuiet, ReadsPolicy, by_files}
+use Rattle.skopeo_app.specs.Reads.{stopped, IsQuiet, ReadsPolicy, by_files}
 
 -- ---- a lane on which files are read alone
 

@@ -10,7 +10,7 @@ use Rattle.skopeo_app.specs.declared.refusal.CommandRefusal.TheVariants as refus
 use Rattle.transports.specs.declared.refusal.Refusal.TheVariants as image
 use Rattle.skopeo_app.specs.Refusals.{is_memory}
 use Rattle.skopeo_app.specs.Courses.{command_course}
-use Rattle.skopeo_app.specs.Task.{◌>>=◌, are_same, IsSoundPlan}
+use Rattle.skopeo_app.specs.Plan.{◌>>=◌, are_same, IsSoundPlan}
 
 -- a step that answered a value leaves the rest to the next
 pub then_says : {A B : Type 0} (w : Result A CommandRefusal) (f : A → Result B CommandRefusal) (x : A) (r : Result B CommandRefusal) → Says command_course w (Ok x) → Says command_course (f x) r → Says command_course (w >>= f) r

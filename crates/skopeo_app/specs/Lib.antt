@@ -1,6 +1,7 @@
 pub mod Sinks
 pub mod Refusals
 pub mod Courses
+pub mod Plan
 pub mod Task
 pub mod Numbered
 pub mod Policy
@@ -10,4 +11,5 @@ pub mod Stops
 pub mod JobLines
 pub mod Lines
 pub mod Answer
+pub mod Reads
 pub mod Calls

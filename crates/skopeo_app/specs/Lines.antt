@@ -122,8 +122,7 @@ refusal_line refusal.PolicyTooLarge = codes "skopeo: 31 TooLarge what=policy len
 refusal_line (refusal.Image e) = image_line e
 refusal_line (refusal.Output count) = codes "skopeo: 43 Output faults=" ++ (decimal count ++ codes "\n")
 
--- the status of a refusal: 1 where the places, the policy, the source or a blob is at fault, 2 for words, 3 for an object
--- that failed, 4 for want of memory
+-- the status of a refusal: 1 for places, policy, source or a blob, 2 for words, 3 for an object that failed, 4 for memory
 abbrev pub status_of_refusal : CommandRefusal → ℕ
 status_of_refusal (refusal.Words place kind) = 2
 status_of_refusal (refusal.Image (image.Job job (cause.Wire count))) = 3

@@ -4,7 +4,7 @@ ghost use Rattle.skopeo_outside.specs.Steps.{Says};
 ghost use Rattle.policy_file.specs.PolicyOf.{policy_in};
 ghost use Rattle.skopeo_app.specs.Courses.{lane_course};
 ghost use Rattle.skopeo_app.specs.Policy.{user_path, or_invalid, policy_from, policy_file, usual_path, policy_end};
-ghost use Rattle.skopeo_app.specs.Calls.{ReadsPolicy, by_files, stopped};
+ghost use Rattle.skopeo_app.specs.Reads.{ReadsPolicy, by_files, stopped};
 
 use crate::refusal::CommandRefusal;
 use crate::task::PolicyChoice;

@@ -3,10 +3,11 @@ ghost use Rattle.std.specs.Prelude.{◌≡◌, None, map};
 ghost use Rattle.std.specs.String.{string_bytes};
 ghost use Rattle.skopeo_outside.specs.Seen.{AreLanes, seen};
 ghost use Rattle.skopeo_app.specs.Sinks.{sink_told};
-ghost use Rattle.skopeo_app.specs.Task.{IsSoundPlan};
+ghost use Rattle.skopeo_app.specs.Plan.{IsSoundPlan};
 ghost use Rattle.skopeo_app.specs.Ending.{copy_done, page_done};
 ghost use Rattle.skopeo_app.specs.Answer.{told_by};
-ghost use Rattle.skopeo_app.specs.Calls.{ReadsFirst, CopiesImage, CopiesTask, IsCopyAnswer, Prints, IsRun, IsPageAnswer};
+ghost use Rattle.skopeo_app.specs.Reads.{ReadsFirst};
+ghost use Rattle.skopeo_app.specs.Calls.{CopiesImage, CopiesTask, IsCopyAnswer, Prints, IsRun, IsPageAnswer};
 
 use crate::lines::print_lines;
 use crate::policy::read_policy_for;

@@ -4,7 +4,8 @@ ghost use Rattle.std.specs.String.{string_bytes};
 ghost use Rattle.skopeo_outside.specs.Steps.{Says};
 ghost use Rattle.skopeo_app.specs.Refusals.{is_output};
 ghost use Rattle.skopeo_app.specs.Courses.{command_course};
-ghost use Rattle.skopeo_app.specs.Task.{place_at, is_folder, folder_in, are_same, apart, lanes_for, plan_of, asks_more, are_built, built, by_path, choice_of, copy_of, unbuilt_at, unbuilt_sync, task_in, IsSound, task_of};
+ghost use Rattle.skopeo_app.specs.Plan.{place_at, is_folder, folder_in, are_same, apart, lanes_for, plan_of};
+ghost use Rattle.skopeo_app.specs.Task.{asks_more, are_built, built, by_path, choice_of, copy_of, unbuilt_at, unbuilt_sync, task_in, IsSound, task_of};
 
 use crate::refusal::{CommandRefusal, Unbuilt};
 use copy_engine::{CopyPlan, Refusal};
@@ -43,7 +44,7 @@ pub enum Task {
 }
 
 /// The place of a text. Relative paths count from `cwd`.
-#[tactic(auto, unfolding(skopeo_outside::specs::Steps::Says, crate::specs::Courses::command_course, crate::specs::Task::place_at))]
+#[tactic(auto, unfolding(skopeo_outside::specs::Steps::Says, crate::specs::Courses::command_course, crate::specs::Plan::place_at))]
 fn place_at(alloc: Global, cwd: &str, text: &str) -> Result<Place, CommandRefusal>
     ensures says { Says command_course (place_at cwd.now text.now) result }
     ensures other { IfErr result (λ e. is_output e ≡ false) }
@@ -106,7 +107,7 @@ fn lanes_for(common: &Common) -> u32
 }
 
 /// The places of a copy, and its lanes.
-#[tactic(auto, using(crate::proofs::TaskLemmas::then_says, crate::proofs::TaskLemmas::then_refuses), unfolding(crate::specs::Task::plan_of))]
+#[tactic(auto, using(crate::proofs::TaskLemmas::then_says, crate::proofs::TaskLemmas::then_refuses), unfolding(crate::specs::Plan::plan_of))]
 fn plan_of(
     alloc: Global,
     cwd: &str,

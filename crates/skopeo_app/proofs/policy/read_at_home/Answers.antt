@@ -7,7 +7,7 @@ use Rattle.transports.specs.declared.refusal.Refusal.TheVariants as image
 use Rattle.skopeo_app.specs.declared.refusal.CommandRefusal.{CommandRefusal}
 use Rattle.skopeo_app.specs.declared.refusal.CommandRefusal.TheVariants.{Image}
 use Rattle.skopeo_app.specs.Policy.{user_path}
-use Rattle.skopeo_app.specs.Calls.{stopped}
+use Rattle.skopeo_app.specs.Reads.{stopped}
 use Rattle.skopeo_app.proofs.PolicyLemmas.{stopped_reads, memory_reads, user_reads, system_reads}
 use Rattle.skopeo_app.proofs.policy.read_at_home.Goals as goal
 

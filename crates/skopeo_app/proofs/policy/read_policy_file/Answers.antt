@@ -6,7 +6,7 @@ use Rattle.layouts.specs.Bounds.{limited}
 use Rattle.layouts.specs.declared.read.Limited.{Limited}
 use Rattle.skopeo_app.specs.Courses.{lane_course}
 use Rattle.skopeo_app.specs.Policy.{policy_from}
-use Rattle.skopeo_app.specs.Calls.{stopped}
+use Rattle.skopeo_app.specs.Reads.{stopped}
 use Rattle.skopeo_app.proofs.PolicyLemmas.{stopped_reads, file_reads}
 use Rattle.skopeo_app.proofs.policy.read_policy_file.Goals as goal
 
