@@ -1,7 +1,11 @@
-pub mod OutcomeLemmas
 pub mod TaskLemmas
 pub mod PolicyLemmas
-pub mod RunLemmas
+pub mod CountsLemmas
+pub mod EarlierLemmas
+pub mod AheadLemmas
+pub mod ImageLemmas
 pub mod TellingLemmas
-pub mod LaneLemmas
+pub mod RunLemmas
+pub mod CommandLemmas
+pub mod NumberLemmas
 pub mod CompleteLemmas

@@ -1,15 +1,22 @@
--- How the command ends where nothing fails outside: its steps in order, the first refusal counting.
-use Rattle.std.specs.Prelude.{[], List, ℕ, Bool, if◌then◌else◌, Option, Some, None, Ok}
-use Rattle.skopeo_outside.specs.Tree.{Tree}
-use Rattle.copy_engine.specs.declared.report.Copied.{Copied}
-use Rattle.copy_engine.specs.ImageEnd.{image_end}
+-- How the command ends: its steps in order, the first refusal counting. Each step says which ends it may come to between
+-- what was told before it and behind it.
+use Rattle.std.specs.Prelude.{◌≡◌, [], List, ℕ, Bool, if◌then◌else◌, Some, None, Ok, Err}
+use Rattle.skopeo_outside.specs.Steps.{◌>>=◌, given, Ends}
+use Rattle.skopeo_outside.specs.OnLanes.{SeenStep, on_first}
+use Rattle.transports.specs.declared.report.Copied.{Copied}
+use Rattle.transports.specs.declared.refusal.Refusal.{Refusal}
+use Rattle.copy_engine.specs.Walk.{image_end}
+use Rattle.skopeo_app.specs.declared.refusal.CommandRefusal.{CommandRefusal}
+use Rattle.skopeo_app.specs.declared.refusal.CommandRefusal.TheVariants.{Image}
 use Rattle.skopeo_app.specs.declared.run.Done.{Done}
 use Rattle.skopeo_app.specs.declared.task.CopyTask.{CopyTask}
 use Rattle.skopeo_app.specs.declared.task.Task.{Task}
 use Rattle.skopeo_app.specs.declared.task.Task.TheVariants.{Page, Copy}
-use Rattle.skopeo_app.specs.Outcome.{Outcome, ◌>>=◌, lifted}
+use Rattle.skopeo_app.specs.Sinks.{Gains}
+use Rattle.skopeo_app.specs.Refusals.{BlamesOutput, IsUnprinted}
+use Rattle.skopeo_app.specs.Courses.{lane_course, seen_course, CommandStep}
 use Rattle.skopeo_app.specs.Task.{task_of}
-use Rattle.skopeo_app.specs.Policy.{policy_at}
+use Rattle.skopeo_app.specs.Policy.{policy_end}
 
 -- a text that is printed
 abbrev pub page_done : List ℕ → Done
@@ -19,22 +26,39 @@ page_done text = record { rows = None; lines = text }
 abbrev pub copy_done : Bool → Copied → Done
 copy_done quiet copied = record { rows = Some copied.rows; lines = if quiet then [] else copied.lines }
 
--- one copy: its policy, and then the image
-unfoldable pub image_of_task : List ℕ → List ℕ → Option Tree → CopyTask → Outcome Copied
-image_of_task home cwd seen task = do
-  policy ← policy_at seen home cwd task.policy
-  lifted (image_end seen task.plan policy)
+-- a step of an image's copy, whose refusals are the image's
+unfoldable pub of_image : {A : Type 0} → SeenStep Refusal A → SeenStep CommandRefusal A
+of_image step old new (Ok x) = step old new (Ok x)
+of_image step old new (Err (Image e)) = step old new (Err e)
+of_image step old new (Err e) = ⊥
 
--- the same with what is printed
-unfoldable pub copy_end : List ℕ → List ℕ → Option Tree → CopyTask → Outcome Done
-copy_end home cwd seen task = do
-  copied ← image_of_task home cwd seen task
-  Some (Ok (copy_done task.quiet copied))
+-- the policy of a copy is read on the first lane, and then its image is copied
+unfoldable pub image_of_task : List ℕ → List ℕ → CopyTask → SeenStep CommandRefusal Copied
+image_of_task home cwd task = do
+  policy ← on_first lane_course (policy_end home cwd task.policy)
+  of_image (image_end task.plan policy)
 
-abbrev pub task_end : List ℕ → List ℕ → Option Tree → Task → Outcome Done
-task_end home cwd seen (Page text) = Some (Ok (page_done text))
-task_end home cwd seen (Copy task) = copy_end home cwd seen task
+-- a step over the lanes; the output rests
+unfoldable pub on_lanes : {A : Type 0} → SeenStep CommandRefusal A → CommandStep A
+on_lanes step old new r = Ends seen_course step old.seen new.seen r × (new.out ≡ old.out)
+
+-- lines are printed on the output: whole, or a front of them and the output's fault; the lanes rest
+unfoldable pub printing : Done → CommandStep Done
+printing done old new (Ok x) = (x ≡ done) × (new.seen ≡ old.seen) × Gains done.lines old.out new.out
+printing done old new (Err e) = (new.seen ≡ old.seen) × IsUnprinted done.lines old.out new.out e × BlamesOutput e old.out new.out
+
+-- one copy, and the lines of what was copied
+unfoldable pub copy_end : List ℕ → List ℕ → CopyTask → CommandStep Done
+copy_end home cwd task = do
+  copied ← on_lanes (image_of_task home cwd task)
+  printing (copy_done task.quiet copied)
+
+abbrev pub task_end : List ℕ → List ℕ → Task → CommandStep Done
+task_end home cwd (Page text) = printing (page_done text)
+task_end home cwd (Copy task) = copy_end home cwd task
 
 -- the words, and then what they ask for
-unfoldable pub ending : List (List ℕ) → List ℕ → List ℕ → Option Tree → Outcome Done
-ending words home cwd seen = Some (task_of words cwd) >>= task_end home cwd seen
+unfoldable pub ending : List (List ℕ) → List ℕ → List ℕ → CommandStep Done
+ending words home cwd = do
+  task ← given (task_of words cwd)
+  task_end home cwd task

@@ -1,12 +1,13 @@
--- The copy theorem: behind each manifest that was written stands an image that the words name, admitted by the policy that counts.
-use Rattle.std.specs.Prelude.{◌≡◌, List, ℕ, Some, Ok}
+-- The copy theorem: behind each manifest that was written, on any lane, stands an image that the words name, admitted by the policy that counts.
+use Rattle.std.specs.Prelude.{◌≡◌, [], ◌∷◌, List, ℕ, Option, None, Some, Ok, IfSome, slice_get}
 use Rattle.skopeo_outside.specs.Tree.{Tree, file_at}
+use Rattle.skopeo_outside.specs.LaneTold.{LaneTold}
+use Rattle.skopeo_outside.specs.Seen.{Seen}
 use Rattle.json_tree.specs.Tree.{tree}
-use Rattle.layouts.specs.Trees.{OnlyIn}
 use Rattle.policy_file.specs.PolicyLists.{PolicyLists, accepting}
 use Rattle.policy_file.specs.IsPolicy.{IsPolicy}
-use Rattle.copy_engine.specs.Plan.{dest_of}
-use Rattle.copy_engine.specs.Headline.{IsWrite, IsCopied}
+use Rattle.transports.specs.Writes.{Spot, IsWrite}
+use Rattle.copy_engine.specs.Headline.{IsCopied}
 use Rattle.skopeo_app.specs.declared.task.CopyTask.{CopyTask}
 use Rattle.skopeo_app.specs.declared.task.PolicyChoice.{PolicyChoice}
 use Rattle.skopeo_app.specs.declared.task.PolicyChoice.TheVariants.{Anything, Named, Usual}
@@ -20,26 +21,32 @@ pub record SaysPolicy (entry : Tree) (path : List ℕ) (policy : PolicyLists) : 
   pub there : file_at entry path ≡ Some bytes
   pub says : IsPolicy (tree bytes) policy
 
--- the policy that counts: the one that accepts all, or that of the file that is named, or that of the usual file
-abbrev pub Counts : Tree → List ℕ → List ℕ → PolicyChoice → PolicyLists → Type 0
+-- the policy that counts, by a tree where it is told: the one that accepts all, or that of the file that is named, or that
+-- of the usual file
+abbrev pub Counts : Option Tree → List ℕ → List ℕ → PolicyChoice → PolicyLists → Type 0
 Counts entry home cwd Anything policy = policy ≡ accepting
-Counts entry home cwd (Named path) policy = SaysPolicy entry path policy
-Counts entry home cwd Usual policy = SaysPolicy entry (usual_path entry home cwd) policy
+Counts entry home cwd (Named path) policy = IfSome entry (λ t. SaysPolicy t path policy)
+Counts entry home cwd Usual policy = IfSome entry (λ t. SaysPolicy t (usual_path t home cwd) policy)
+
+-- what the first lane's files tell
+abbrev pub first_tree : List LaneTold → Option Tree
+first_tree [] = None
+first_tree (a ∷ lanes) = a.files.tree
+
+-- the words name this copy, and this policy counts for it, by the first lane's files at entry
+pub record IsAsked (words : List (List ℕ)) (home cwd : List ℕ) (old : Seen) (task : CopyTask) (policy : PolicyLists) : Type 0 where
+  pub is_named : task_of words cwd ≡ Ok (Copy task)
+  pub counts : Counts (first_tree old.lanes) home cwd task.policy policy
 
 -- an image that the words name was copied under the policy that counts
-pub record IsCommanded (words : List (List ℕ)) (home cwd : List ℕ) (entry new : Tree) (path bytes : List ℕ) : Type 0 where
+pub record IsCommanded (words : List (List ℕ)) (home cwd : List ℕ) (old new : Seen) (at : Spot) (bytes : List ℕ) : Type 0 where
   pub task : CopyTask
-  pub is_asked : task_of words cwd ≡ Ok (Copy task)
   pub policy : PolicyLists
-  pub counts : Counts entry home cwd task.policy policy
-  pub copied : IsCopied policy task.plan entry new path bytes
+  pub asked : IsAsked words home cwd old task policy
+  pub copied : IsCopied policy task.plan old new at bytes
 
--- the copy theorem for the tree of one lane, under the tree of the first one at entry
-abbrev pub Headline : List (List ℕ) → List ℕ → List ℕ → Tree → Tree → Tree → Type 0
-Headline words home cwd entry old new = (path bytes : List ℕ) → IsWrite old new path bytes → IsCommanded words home cwd entry new path bytes
-
--- files that do not stand directly in the destination that the words name are as they were, and no folder but it was
--- made; where the words name no copy nothing changes
-pub record Frame (words : List (List ℕ)) (cwd : List ℕ) (old new : Tree) : Type 0 where
-  pub inside : (task : CopyTask) → task_of words cwd ≡ Ok (Copy task) → OnlyIn (dest_of task.plan) old new
-  pub unnamed : ((task : CopyTask) → task_of words cwd ≡ Ok (Copy task) → ⊥) → new ≡ old
+-- each manifest that was written, on any lane, is one
+abbrev pub Headline : List (List ℕ) → List ℕ → List ℕ → Seen → Seen → Type 0
+Headline words home cwd old new = (lane : ℕ) (a b : LaneTold) (at : Spot) (bytes : List ℕ)
+    → slice_get old.lanes lane ≡ Some a → slice_get new.lanes lane ≡ Some b → IsWrite a b at bytes
+    → IsCommanded words home cwd old new at bytes

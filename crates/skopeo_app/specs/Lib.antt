@@ -1,8 +1,15 @@
-pub mod Outcome
+pub mod Sinks
+pub mod Refusals
+pub mod Courses
+pub mod Plan
 pub mod Task
+pub mod Numbered
 pub mod Policy
-pub mod Ending
 pub mod Headline
+pub mod Ending
+pub mod Stops
 pub mod JobLines
 pub mod Lines
+pub mod Answer
+pub mod Reads
 pub mod Calls

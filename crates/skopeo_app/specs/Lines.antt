@@ -10,13 +10,13 @@ use Rattle.policy_file.specs.declared.fault.PolicyKind.{PolicyKind}
 use Rattle.policy_file.specs.declared.fault.PolicyKind.TheVariants as policy
 use Rattle.skopeo_words.specs.declared.fault.WordsKind.{WordsKind}
 use Rattle.skopeo_words.specs.declared.fault.WordsKind.TheVariants as words
-use Rattle.copy_engine.specs.declared.refusal.Part.{Part}
-use Rattle.copy_engine.specs.declared.refusal.Part.TheVariants as part
-use Rattle.copy_engine.specs.declared.refusal.Why.{Why}
-use Rattle.copy_engine.specs.declared.refusal.Why.TheVariants as why
+use Rattle.transports.specs.declared.refusal.Part.{Part}
+use Rattle.transports.specs.declared.refusal.Part.TheVariants as part
+use Rattle.transports.specs.declared.refusal.Why.{Why}
+use Rattle.transports.specs.declared.refusal.Why.TheVariants as why
 use Rattle.copy_workers.specs.declared.cause.Cause.TheVariants as cause
-use Rattle.copy_engine.specs.declared.refusal.Refusal.{Refusal}
-use Rattle.copy_engine.specs.declared.refusal.Refusal.TheVariants as image
+use Rattle.transports.specs.declared.refusal.Refusal.{Refusal}
+use Rattle.transports.specs.declared.refusal.Refusal.TheVariants as image
 use Rattle.skopeo_app.specs.JobLines.{json_text, what_word, cause_line}
 use Rattle.skopeo_app.specs.declared.run.Done.{Done}
 use Rattle.skopeo_app.specs.declared.refusal.Unbuilt.{Unbuilt}
@@ -33,6 +33,7 @@ unbuilt_word unbuilt.Place = codes "place"
 abbrev pub part_word : Part → List ℕ
 part_word part.Policy = codes "policy"
 part_word part.Manifest = codes "manifest"
+part_word part.Place = codes "place"
 
 abbrev pub why_word : Why → List ℕ
 why_word why.Reject = codes "reject"
@@ -104,6 +105,7 @@ image_line (image.TooLarge what length) = codes "skopeo: 31 TooLarge what=" ++ (
 image_line (image.ManifestInvalid member) = codes "skopeo: 19 ManifestInvalid member=" ++ (json_text member ++ codes "\n")
 image_line (image.Job job reason) = cause_line job reason
 image_line (image.Files count) = codes "skopeo: 41 Files faults=" ++ (decimal count ++ codes "\n")
+image_line (image.Wire count) = codes "skopeo: 40 Wire faults=" ++ (decimal count ++ codes "\n")
 image_line image.Memory = codes "skopeo: 4 OutOfMemory\n"
 
 -- the line of a refusal
@@ -120,14 +122,14 @@ refusal_line refusal.PolicyTooLarge = codes "skopeo: 31 TooLarge what=policy len
 refusal_line (refusal.Image e) = image_line e
 refusal_line (refusal.Output count) = codes "skopeo: 43 Output faults=" ++ (decimal count ++ codes "\n")
 
--- the status of a refusal: 1 where the places, the policy, the source or a blob is at fault, 2 for words, 3 for an object
--- that failed, 4 for want of memory
+-- the status of a refusal: 1 for places, policy, source or a blob, 2 for words, 3 for an object that failed, 4 for memory
 abbrev pub status_of_refusal : CommandRefusal → ℕ
 status_of_refusal (refusal.Words place kind) = 2
 status_of_refusal (refusal.Image (image.Job job (cause.Wire count))) = 3
 status_of_refusal (refusal.Image (image.Job job (cause.Files count))) = 3
 status_of_refusal (refusal.Image (image.Job job cause.Memory)) = 4
 status_of_refusal (refusal.Image (image.Files count)) = 3
+status_of_refusal (refusal.Image (image.Wire count)) = 3
 status_of_refusal (refusal.Image image.Memory) = 4
 status_of_refusal (refusal.Output count) = 3
 status_of_refusal _ = 1

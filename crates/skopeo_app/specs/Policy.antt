@@ -1,8 +1,9 @@
 -- Which policy file counts, and what it says (skopeo(1), `--policy` and `--insecure-policy`; containers-policy.json(5)).
-use Rattle.std.specs.Prelude.{◌++◌, [], ◌∷◌, List, ℕ, if◌then◌else◌, codes, Option, Some, None, Result, Ok, Err}
-use Rattle.std.specs.Option.{option_map, is_some}
+use Rattle.std.specs.Prelude.{◌≡◌, ◌++◌, [], ◌∷◌, List, ℕ, if◌then◌else◌, codes, Result, Ok, Err, IfSome}
+use Rattle.std.specs.Option.{is_some}
 use Rattle.image_ref.specs.Path.{cleaned}
 use Rattle.skopeo_outside.specs.Tree.{Tree, file_at}
+use Rattle.skopeo_outside.specs.OnLanes.{LaneStep}
 use Rattle.layouts.specs.Bounds.{limited}
 use Rattle.layouts.specs.declared.read.Limited.{Limited}
 use Rattle.layouts.specs.declared.read.Limited.TheVariants.{Absent, TooLong, Whole}
@@ -10,12 +11,12 @@ use Rattle.policy_file.specs.PolicyLists.{PolicyLists, accepting}
 use Rattle.policy_file.specs.PolicyOf.{policy_in}
 use Rattle.policy_file.specs.declared.fault.PolicyFault.{PolicyFault}
 use Rattle.policy_file.specs.declared.fault.PolicyFault.TheVariants as fault
-use Rattle.copy_engine.specs.declared.refusal.Refusal.TheVariants as image
+use Rattle.transports.specs.declared.refusal.Refusal.TheVariants as image
+use Rattle.transports.specs.Has.{IsUntouched}
 use Rattle.skopeo_app.specs.declared.refusal.CommandRefusal.{CommandRefusal}
 use Rattle.skopeo_app.specs.declared.refusal.CommandRefusal.TheVariants.{PolicyMissing, PolicyInvalid, PolicyTooLarge, Image}
 use Rattle.skopeo_app.specs.declared.task.PolicyChoice.{PolicyChoice}
 use Rattle.skopeo_app.specs.declared.task.PolicyChoice.TheVariants.{Anything, Named, Usual}
-use Rattle.skopeo_app.specs.Outcome.{Outcome}
 
 -- the policy file of the system
 abbrev pub system_path : List ℕ
@@ -37,7 +38,7 @@ or_invalid path (Err (fault.Refused kind member)) = Err (PolicyInvalid path kind
 or_invalid path (Err fault.Memory) = Err (Image image.Memory)
 
 -- the policy of a file that is there, not too long and in the grammar
-abbrev pub policy_from : List ℕ → Limited → Result PolicyLists CommandRefusal
+unfoldable pub policy_from : List ℕ → Limited → Result PolicyLists CommandRefusal
 policy_from path Absent = Err (PolicyMissing path)
 policy_from path TooLong = Err PolicyTooLarge
 policy_from path (Whole bytes) = or_invalid path (policy_in bytes)
@@ -45,8 +46,16 @@ policy_from path (Whole bytes) = or_invalid path (policy_in bytes)
 abbrev pub policy_file : Tree → List ℕ → Result PolicyLists CommandRefusal
 policy_file t path = policy_from path (limited (file_at t path))
 
--- the policy that counts
-unfoldable pub policy_at : Option Tree → List ℕ → List ℕ → PolicyChoice → Outcome PolicyLists
-policy_at seen home cwd Anything = Some (Ok accepting)
-policy_at seen home cwd (Named path) = option_map (λ t. policy_file t path) seen
-policy_at seen home cwd Usual = option_map (λ t. policy_file t (usual_path t home cwd)) seen
+-- a policy that is read of a lane's files, where these are told
+abbrev pub by_tree : (Tree → Result PolicyLists CommandRefusal) → LaneStep CommandRefusal PolicyLists
+by_tree policy old new r = IfSome old.files.tree (λ t. r ≡ policy t)
+
+-- the policy that counts, by the files of one lane
+abbrev pub policy_by : List ℕ → List ℕ → PolicyChoice → LaneStep CommandRefusal PolicyLists
+policy_by home cwd Anything = λ old new r. r ≡ Ok accepting
+policy_by home cwd (Named path) = by_tree (λ t. policy_file t path)
+policy_by home cwd Usual = by_tree (λ t. policy_file t (usual_path t home cwd))
+
+-- the step that reads it; it touches nothing
+unfoldable pub policy_end : List ℕ → List ℕ → PolicyChoice → LaneStep CommandRefusal PolicyLists
+policy_end home cwd choice old new r = policy_by home cwd choice old new r × IsUntouched old new

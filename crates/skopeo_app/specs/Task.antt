@@ -1,13 +1,9 @@
 -- What the words ask for, once their places are read and what is not built is refused.
 use Rattle.std.specs.Prelude.{◌&&◌, ◌||◌, List, ℕ, Bool, if◌then◌else◌, Option, Some, None, Result, Ok, Err, ⊤}
 use Rattle.std.specs.Option.{is_some}
-use Rattle.std.specs.Str.{bytes_eq}
 use Rattle.image_ref.specs.Path.{cleaned}
 use Rattle.image_ref.specs.Reading.{reading_of}
-use Rattle.image_ref.specs.PlaceReading.{place_of}
-use Rattle.image_ref.specs.declared.place.Place.{Place}
 use Rattle.image_ref.specs.declared.fault.RefFault.{RefFault}
-use Rattle.image_ref.specs.declared.fault.PlaceFault.{PlaceFault}
 use Rattle.image_ref.specs.declared.fault.PlaceFault.TheVariants as fault
 use Rattle.skopeo_words.specs.Reading.{command_of}
 use Rattle.skopeo_words.specs.Help.{page_of, version_line}
@@ -19,44 +15,16 @@ use Rattle.skopeo_words.specs.declared.command.SyncEnd.{SyncEnd}
 use Rattle.skopeo_words.specs.declared.command.SyncEnd.TheVariants as sync_end
 use Rattle.skopeo_words.specs.declared.fault.WordsFault.{WordsFault}
 use Rattle.skopeo_words.specs.declared.fault.WordsFault.TheVariants as words_fault
-use Rattle.copy_engine.specs.declared.plan.CopyPlan.{CopyPlan}
-use Rattle.copy_engine.specs.declared.refusal.Refusal.TheVariants as image
-use Rattle.copy_engine.specs.Plan.{is_folder, folder_in, IsBetweenFolders}
+use Rattle.transports.specs.declared.plan.CopyPlan.{CopyPlan}
+use Rattle.transports.specs.declared.refusal.Refusal.TheVariants as image
 use Rattle.skopeo_app.specs.declared.refusal.Unbuilt.TheVariants as unbuilt
 use Rattle.skopeo_app.specs.declared.refusal.CommandRefusal.{CommandRefusal}
-use Rattle.skopeo_app.specs.declared.refusal.CommandRefusal.TheVariants.{Words, Reference, SamePlace, NotBuilt, Image}
+use Rattle.skopeo_app.specs.declared.refusal.CommandRefusal.TheVariants.{Words, Reference, NotBuilt, Image}
+use Rattle.skopeo_app.specs.Plan.{◌>>=◌, is_folder, place_at, lanes_for, plan_of, IsSoundPlan}
 use Rattle.skopeo_app.specs.declared.task.PolicyChoice.{PolicyChoice}
 use Rattle.skopeo_app.specs.declared.task.PolicyChoice.TheVariants.{Anything, Named, Usual}
 use Rattle.skopeo_app.specs.declared.task.Task.{Task}
 use Rattle.skopeo_app.specs.declared.task.Task.TheVariants.{Page, Copy}
-
--- one step after the other: the first refusal counts
-infixl 10 ◌>>=◌
-abbrev pub ◌>>=◌ : {A B : Type 0} → Result A CommandRefusal → (A → Result B CommandRefusal) → Result B CommandRefusal
-(Ok x) >>= f = f x
-(Err e) >>= f = Err e
-
--- a place, or its text and first fault
-abbrev pub or_reference : List ℕ → Result Place PlaceFault → Result Place CommandRefusal
-or_reference text (Ok place) = Ok place
-or_reference text (Err fault) = Err (Reference text fault)
-
-unfoldable pub place_at : List ℕ → List ℕ → Result Place CommandRefusal
-place_at cwd text = or_reference text (place_of cwd text)
-
--- two places that are one folder
-abbrev pub are_same : CopyPlan → Bool
-are_same plan = (is_folder plan.source && is_folder plan.dest) && bytes_eq (folder_in plan.source) (folder_in plan.dest)
-
-abbrev pub apart : CopyPlan → Result CopyPlan CommandRefusal
-apart plan = if are_same plan then Err (SamePlace (folder_in plan.source)) else Ok plan
-
--- the places of a copy: the source is read first
-unfoldable pub plan_of : List ℕ → List ℕ → List ℕ → Result CopyPlan CommandRefusal
-plan_of cwd source dest = do
-  from ← place_at cwd source
-  to ← place_at cwd dest
-  apart (record { source = from; dest = to })
 
 -- an option is given of which the work is not built
 abbrev pub asks_more : Common → Passing → Bool → Bool
@@ -87,14 +55,14 @@ choice_of cwd common = if common.insecure_policy then Anything else by_path cwd 
 -- one copy
 unfoldable pub copy_of : List ℕ → Common → Passing → Bool → Bool → List ℕ → List ℕ → Result Task CommandRefusal
 copy_of cwd common passing quiet short_names source dest = do
-  plan ← plan_of cwd source dest
+  plan ← plan_of cwd (lanes_for common) source dest
   _ ← built common passing short_names plan
   Ok (Copy (record { policy = choice_of cwd common; quiet = quiet; plan = plan }))
 
--- what a copy needs: two folders that are not one
+-- what a copy needs
 abbrev pub IsSound : Task → Type 0
 IsSound (Page text) = Unit {0}
-IsSound (Copy task) = IsBetweenFolders task.plan
+IsSound (Copy task) = IsSoundPlan task.plan
 
 -- a command that is not built is refused once its place is read
 unfoldable pub unbuilt_at : List ℕ → List ℕ → Result Task CommandRefusal
@@ -128,3 +96,9 @@ by_words cwd (Err words_fault.Memory) = Err (Image image.Memory)
 -- what the words ask for
 unfoldable pub task_of : List (List ℕ) → List ℕ → Result Task CommandRefusal
 task_of words cwd = by_words cwd (command_of words)
+
+-- how many first lanes the words name
+abbrev pub lanes_of : Result Task CommandRefusal → ℕ
+lanes_of (Ok (Page text)) = 0
+lanes_of (Ok (Copy task)) = task.plan.lanes
+lanes_of (Err e) = 0

@@ -1,10 +1,13 @@
 // The top call.
-ghost use Rattle.std.specs.Prelude.{◌≡◌, IfSome, ℕ, map};
+ghost use Rattle.std.specs.Prelude.{◌≡◌, None, map};
 ghost use Rattle.std.specs.String.{string_bytes};
-ghost use Rattle.skopeo_outside.specs.Outside.{Told};
-ghost use Rattle.skopeo_app.specs.Calls.{Seen, SinkSeen, sink_seen, first_seen, Ends, Tells, Finishes};
-ghost use Rattle.skopeo_app.specs.Headline.{Headline, Frame};
-ghost use Rattle.copy_engine.specs.Lanes.{AreLanes, OnlyFirst, tree_at};
+ghost use Rattle.skopeo_outside.specs.Seen.{AreLanes, KeepsFrom, seen};
+ghost use Rattle.skopeo_app.specs.Sinks.{sink_told};
+ghost use Rattle.skopeo_app.specs.Task.{task_of, lanes_of};
+ghost use Rattle.skopeo_app.specs.Headline.{Headline};
+ghost use Rattle.skopeo_app.specs.Stops.{Leaves};
+ghost use Rattle.skopeo_app.specs.Answer.{told_by, CommandEnds};
+ghost use Rattle.skopeo_app.specs.Calls.{Tells, Finishes};
 
 use crate::lines::{refusal_line, status_of};
 use crate::refusal::CommandRefusal;
@@ -16,7 +19,8 @@ use std::thread::Threads;
 /// Writes a refusal's line and answers its status. A line that cannot be written changes neither.
 #[tactic(auto, using(crate::proofs::TellingLemmas::gained))]
 fn tell<E: Sink>(alloc: Global, err: &mut E, refusal: &CommandRefusal) -> u8
-    ensures { Tells refusal.now result (sink_seen E.written E.faults E.wants err.old) (sink_seen E.written E.faults E.wants err.new) }
+    ensures { Tells refusal.now result (sink_told E.written E.faults E.wants err.old)
+        (sink_told E.written E.faults E.wants err.new) }
 {
     match refusal_line(alloc, refusal) {
         Ok(line) => {
@@ -33,7 +37,8 @@ fn tell<E: Sink>(alloc: Global, err: &mut E, refusal: &CommandRefusal) -> u8
 /// Tells how the command ended, and answers its status.
 #[tactic(auto, using(crate::proofs::TellingLemmas::finished, crate::proofs::TellingLemmas::refused))]
 fn finish<E: Sink>(alloc: Global, err: &mut E, ended: &Result<Done, CommandRefusal>) -> u8
-    ensures { Finishes ended.now result (sink_seen E.written E.faults E.wants err.old) (sink_seen E.written E.faults E.wants err.new) }
+    ensures { Finishes ended.now result (sink_told E.written E.faults E.wants err.old)
+        (sink_told E.written E.faults E.wants err.new) }
 {
     match ended {
         Ok(_) => 0,
@@ -41,9 +46,10 @@ fn finish<E: Sink>(alloc: Global, err: &mut E, ended: &Result<Done, CommandRefus
     }
 }
 
-/// Does what the words say, on the first lane, and answers the exit status: 0 where it was done, 1 where a place, the
-/// policy, the source or a blob is at fault, 2 for words, 3 where an object failed, and 4 for want of memory. `home` is the
-/// folder of the user, or empty, and `cwd` an absolute path.
+/// Does what the words say, and answers the exit status: 0 where it was done, 1 where a place, the policy, the source or a
+/// blob is at fault, 2 for words, 3 where an object failed, and 4 for want of memory. Blobs are carried on as many first
+/// lanes as `--lanes` says, all else is done on the first. `home` is the folder of the user, or empty, and `cwd` an absolute
+/// path.
 pub fn skopeo<R: Threads + Sync, W: Wire + Send, F: Files + Send, H: Helper, O: Sink, E: Sink>(
     rt: &R,
     alloc: Global,
@@ -56,16 +62,17 @@ pub fn skopeo<R: Threads + Sync, W: Wire + Send, F: Files + Send, H: Helper, O: 
     err: &mut E,
 ) -> u8
     requires lanes { AreLanes lanes.old.items }
-    ensures headline { IfSome (tree_at F.tree lanes.old.items 0) (λ entry. (place : ℕ)
-        → Told (Headline (map string_bytes words.now) home.now cwd.now entry) (tree_at F.tree lanes.old.items place) (tree_at F.tree lanes.new.items place)) }
-    ensures frame { Told (Frame (map string_bytes words.now) cwd.now) (tree_at F.tree lanes.old.items 0) (tree_at F.tree lanes.new.items 0) }
-    ensures rest { OnlyFirst lanes.old.items lanes.new.items }
+    ensures headline { Headline (map string_bytes words.now) home.now cwd.now
+        (seen lanes.old.items None 0) (seen lanes.new.items None 0) }
+    ensures leaves { Leaves (map string_bytes words.now) home.now cwd.now
+        (seen lanes.old.items None 0) (seen lanes.new.items None 0) }
+    ensures rest { KeepsFrom (lanes_of (task_of (map string_bytes words.now) cwd.now)) lanes.old.items lanes.new.items }
     ensures helper { helper.new ≡ helper.old }
-    ensures ends { Ends (map string_bytes words.now) home.now cwd.now
-        (first_seen F.tree F.faults lanes.old.items (sink_seen O.written O.faults O.wants out.old))
-        (first_seen F.tree F.faults lanes.new.items (sink_seen O.written O.faults O.wants out.new))
-        (sink_seen E.written E.faults E.wants err.old)
-        (sink_seen E.written E.faults E.wants err.new)
+    ensures ends { CommandEnds (map string_bytes words.now) home.now cwd.now
+        (told_by lanes.old.items (sink_told O.written O.faults O.wants out.old))
+        (told_by lanes.new.items (sink_told O.written O.faults O.wants out.new))
+        (sink_told E.written E.faults E.wants err.old)
+        (sink_told E.written E.faults E.wants err.new)
         result }
 {
     let ended = run(rt, alloc, words, home, cwd, lanes, out);

@@ -1,11 +1,11 @@
 // The lines that the command writes.
-ghost use Rattle.std.specs.Prelude.{◌≡◌, ◌++◌, ◌⊎◌, ℕ, List, OnOk, OnErr, IfOk, IfErr, option_map};
+ghost use Rattle.std.specs.Prelude.{◌≡◌, IfOk};
 ghost use Rattle.std.specs.String.{string_bytes};
 ghost use Rattle.image_ref.specs.Reading.{offset};
-ghost use Rattle.skopeo_outside.specs.Outside.{HasCause, HasPrefixOf, Told};
 ghost use Rattle.skopeo_app.specs.Lines.{unbuilt_word, part_word, why_word, words_word, policy_word, reference_word, place_word, place_offset, scope_text, image_line, refusal_line, status_of_refusal};
 ghost use Rattle.skopeo_app.specs.JobLines.{json_text, what_word, cause_line};
-ghost use Rattle.skopeo_app.specs.Calls.{SinkSeen, sink_seen, HasFailed, IsOfOutput, OutputCause};
+ghost use Rattle.skopeo_app.specs.Sinks.{sink_told};
+ghost use Rattle.skopeo_app.specs.Calls.{Prints};
 
 use crate::job_lines::{cause_line, json_text, what_word};
 use crate::refusal::{CommandRefusal, Unbuilt};
@@ -32,6 +32,7 @@ fn part_word(part: Part) -> &'static str
     match part {
         Part::Policy => "policy",
         Part::Manifest => "manifest",
+        Part::Place => "place",
     }
 }
 
@@ -174,6 +175,7 @@ fn image_line(alloc: Global, refusal: &Refusal) -> Result<String, Memory>
         }
         Refusal::Job(job, cause) => cause_line(alloc, *job, cause),
         Refusal::Files(count) => Ok(format!(in alloc; "skopeo: 41 Files faults={count}\n")?),
+        Refusal::Wire(count) => Ok(format!(in alloc; "skopeo: 40 Wire faults={count}\n")?),
         Refusal::Memory => Ok(String::from_str(alloc, "skopeo: 4 OutOfMemory\n")?),
     }
 }
@@ -270,6 +272,7 @@ pub fn status_of(refusal: &CommandRefusal) -> u8
         CommandRefusal::Image(Refusal::Job(_, Cause::Files(_))) => 3,
         CommandRefusal::Image(Refusal::Job(_, Cause::Memory)) => 4,
         CommandRefusal::Image(Refusal::Files(_)) => 3,
+        CommandRefusal::Image(Refusal::Wire(_)) => 3,
         CommandRefusal::Image(Refusal::Memory) => 4,
         CommandRefusal::Output(_) => 3,
     }
@@ -277,11 +280,8 @@ pub fn status_of(refusal: &CommandRefusal) -> u8
 
 /// Writes a text to the output. It takes no memory of its own.
 pub fn print_lines<O: Sink>(out: &mut O, lines: &str) -> Result<(), CommandRefusal>
-    ensures printed { OnOk result (O.written out.new ≡ option_map (λ old. old ++ lines.now) (O.written out.old)) }
-    ensures part { OnErr result (Told (HasPrefixOf lines.now) (O.written out.old) (O.written out.new)) }
-    ensures only { IfErr result IsOfOutput }
-    ensures failed { OnErr result (HasFailed (sink_seen O.written O.faults O.wants out.old) (sink_seen O.written O.faults O.wants out.new)) }
-    ensures cause { OutputCause (O.faults out.old) (O.faults out.new) result }
+    ensures prints { Prints lines.now (sink_told O.written O.faults O.wants out.old)
+        (sink_told O.written O.faults O.wants out.new) result }
 {
     match out.write(lines.as_bytes()) {
         Ok(()) => Ok(()),

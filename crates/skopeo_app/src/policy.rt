@@ -1,28 +1,36 @@
 // The policy that counts.
-ghost use Rattle.std.specs.Prelude.{◌≡◌, Some, None, IfOk, IfErr};
-ghost use Rattle.std.specs.Option.{option_map};
-ghost use Rattle.skopeo_outside.specs.Tree.{file_at};
-ghost use Rattle.layouts.specs.Bounds.{limited};
+ghost use Rattle.std.specs.Prelude.{◌≡◌, IfOk, length};
+ghost use Rattle.skopeo_outside.specs.Steps.{Says};
 ghost use Rattle.policy_file.specs.PolicyOf.{policy_in};
-ghost use Rattle.skopeo_app.specs.Outcome.{Answers};
-ghost use Rattle.skopeo_app.specs.Calls.{FilesCause, IsInner};
-ghost use Rattle.skopeo_app.specs.Policy.{user_path, or_invalid, policy_file, usual_path, policy_at};
+ghost use Rattle.skopeo_app.specs.Courses.{lane_course};
+ghost use Rattle.skopeo_app.specs.Policy.{user_path, or_invalid, policy_from, policy_file, usual_path, policy_end};
+ghost use Rattle.skopeo_app.specs.Reads.{ReadsPolicy, by_files, stopped};
 
 use crate::refusal::CommandRefusal;
 use crate::task::PolicyChoice;
-use copy_engine::{Refusal, stopped};
+use copy_engine::Refusal;
 use image_ref::clean_path;
 use layouts::{Limited, read_limited};
 use policy_file::{Policy, PolicyFault, read_policy};
-use skopeo_outside::{Files, Memory, Text};
+use skopeo_outside::{Files, Lane, Memory, Stop, Text, Wire};
 use std::alloc::Global;
 
 const SYSTEM: &str = "/etc/containers/policy.json";
 
+/// The refusal that a stopped call of the files is.
+fn stopped(stop: Stop, faults: u64) -> CommandRefusal
+    ensures { result ≡ stopped stop faults }
+{
+    match stop {
+        Stop::Fault => CommandRefusal::Image(Refusal::Files(faults)),
+        Stop::Memory => CommandRefusal::Image(Refusal::Memory),
+    }
+}
+
 /// The policy that bytes are.
+#[tactic(auto, unfolding(skopeo_outside::specs::Steps::Says, crate::specs::Courses::lane_course))]
 fn policy_in(alloc: Global, path: &str, bytes: &[u8]) -> Result<Policy, CommandRefusal>
-    ensures inner { IfErr result IsInner }
-    ensures answer { Answers result (Some (or_invalid path.now (policy_in bytes.now))) }
+    ensures says { Says lane_course (or_invalid path.now (policy_in bytes.now)) result }
 {
     match read_policy(alloc, bytes) {
         Ok(policy) => Ok(policy),
@@ -35,21 +43,29 @@ fn policy_in(alloc: Global, path: &str, bytes: &[u8]) -> Result<Policy, CommandR
     }
 }
 
+/// The policy that a file says.
+#[tactic(auto, unfolding(skopeo_outside::specs::Steps::Says, crate::specs::Courses::lane_course, crate::specs::Policy::policy_from))]
+fn policy_from(alloc: Global, path: &str, file: &Limited) -> Result<Policy, CommandRefusal>
+    ensures says { Says lane_course (policy_from path.now file.now) result }
+{
+    match file {
+        Limited::Absent => Err(CommandRefusal::PolicyMissing(Text::copy_of(alloc, path)?)),
+        Limited::TooLong => Err(CommandRefusal::PolicyTooLarge),
+        Limited::Whole(bytes) => policy_in(alloc, path, bytes.as_slice()),
+    }
+}
+
 /// The policy of the file at a path.
-fn read_policy_file<F: Files>(
+fn read_policy_file<W: Wire, F: Files>(
     alloc: Global,
-    files: &mut F,
+    lane: &mut Lane<W, F>,
     path: &str,
 ) -> Result<Policy, CommandRefusal>
-    ensures answer { Answers result (option_map (λ t. policy_file t path.now) (F.tree files.old)) }
-    ensures same { F.tree files.new ≡ F.tree files.old }
-    ensures cause { FilesCause (F.faults files.old) (F.faults files.new) result }
+    ensures reads { ReadsPolicy (by_files (λ t. policy_file t path.now)) lane.old lane.new result }
 {
-    match read_limited(alloc, files, path) {
-        Err(stop) => Err(CommandRefusal::Image(stopped(stop, files.faults()))),
-        Ok(Limited::Absent) => Err(CommandRefusal::PolicyMissing(Text::copy_of(alloc, path)?)),
-        Ok(Limited::TooLong) => Err(CommandRefusal::PolicyTooLarge),
-        Ok(Limited::Whole(bytes)) => policy_in(alloc, path, bytes.as_slice()),
+    match read_limited(alloc, &mut lane.files, path) {
+        Err(stop) => return Err(stopped(stop, lane.files.faults())),
+        Ok(file) => policy_from(alloc, path, &file),
     }
 }
 
@@ -62,44 +78,52 @@ fn user_path(alloc: Global, home: &str, cwd: &str) -> Result<Text, Memory>
     clean_path(alloc, cwd, path.as_str())
 }
 
-/// The policy of the user where there is one, else that of the system.
-fn read_usual<F: Files>(
+/// The policy of the user at home where there is one, else that of the system.
+fn read_at_home<W: Wire, F: Files>(
     alloc: Global,
-    files: &mut F,
+    lane: &mut Lane<W, F>,
     home: &str,
     cwd: &str,
 ) -> Result<Policy, CommandRefusal>
-    ensures answer { Answers result (option_map (λ t. policy_file t (usual_path t home.now cwd.now)) (F.tree files.old)) }
-    ensures same { F.tree files.new ≡ F.tree files.old }
-    ensures cause { FilesCause (F.faults files.old) (F.faults files.new) result }
+    requires some { length home.now ≡ 0 → ⊥ }
+    ensures reads { ReadsPolicy (by_files (λ t. policy_file t (usual_path t home.now cwd.now))) lane.old lane.new result }
 {
-    if home.is_empty() {
-        return read_policy_file(alloc, files, SYSTEM);
-    }
     let path = user_path(alloc, home, cwd)?;
-    match files.size(path.as_str()) {
-        Err(stop) => Err(CommandRefusal::Image(stopped(stop, files.faults()))),
-        Ok(Some(_)) => read_policy_file(alloc, files, path.as_str()),
-        Ok(None) => read_policy_file(alloc, files, SYSTEM),
+    match lane.files.size(path.as_str()) {
+        Err(stop) => return Err(stopped(stop, lane.files.faults())),
+        Ok(Some(_)) => return read_policy_file(alloc, lane, path.as_str()),
+        Ok(None) => read_policy_file(alloc, lane, SYSTEM),
     }
 }
 
-/// The policy that is asked for.
-#[tactic(auto, unfolding(crate::specs::Policy::policy_at))]
-pub fn read_policy_for<F: Files>(
+/// The policy of the user where there is one, else that of the system.
+fn read_usual<W: Wire, F: Files>(
     alloc: Global,
-    files: &mut F,
+    lane: &mut Lane<W, F>,
+    home: &str,
+    cwd: &str,
+) -> Result<Policy, CommandRefusal>
+    ensures reads { ReadsPolicy (by_files (λ t. policy_file t (usual_path t home.now cwd.now))) lane.old lane.new result }
+{
+    if home.is_empty() {
+        return read_policy_file(alloc, lane, SYSTEM);
+    }
+    read_at_home(alloc, lane, home, cwd)
+}
+
+/// The policy that is asked for.
+pub fn read_policy_for<W: Wire, F: Files>(
+    alloc: Global,
+    lane: &mut Lane<W, F>,
     home: &str,
     cwd: &str,
     choice: &PolicyChoice,
 ) -> Result<Policy, CommandRefusal>
-    ensures answer { Answers result (policy_at (F.tree files.old) home.now cwd.now choice.now) }
-    ensures same { F.tree files.new ≡ F.tree files.old }
-    ensures cause { FilesCause (F.faults files.old) (F.faults files.new) result }
+    ensures reads { ReadsPolicy (policy_end home.now cwd.now choice.now) lane.old lane.new result }
 {
     match choice {
         PolicyChoice::Anything => Ok(Policy::accept_all(alloc)?),
-        PolicyChoice::Named(path) => read_policy_file(alloc, files, path.as_str()),
-        PolicyChoice::Usual => read_usual(alloc, files, home, cwd),
+        PolicyChoice::Named(path) => read_policy_file(alloc, lane, path.as_str()),
+        PolicyChoice::Usual => read_usual(alloc, lane, home, cwd),
     }
 }

@@ -1,6 +1,6 @@
 // Why the command ends without success.
 ghost use Rattle.std.specs.Prelude.{◌≡◌};
-ghost use Rattle.copy_engine.specs.declared.refusal.Refusal.TheVariants as image;
+ghost use Rattle.transports.specs.declared.refusal.Refusal.TheVariants as image;
 ghost use Rattle.skopeo_app.specs.declared.refusal.CommandRefusal.TheVariants as refusal;
 
 use copy_engine::Refusal;

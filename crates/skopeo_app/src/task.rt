@@ -1,12 +1,14 @@
 // What the words ask for.
-ghost use Rattle.std.specs.Prelude.{◌≡◌, true, false, IfOk, IfErr, Some, map};
+ghost use Rattle.std.specs.Prelude.{◌≡◌, false, true, IfOk, IfErr, Err, map};
 ghost use Rattle.std.specs.String.{string_bytes};
-ghost use Rattle.skopeo_app.specs.Outcome.{Answers, Refuses};
-ghost use Rattle.skopeo_app.specs.Calls.{IsInner};
-ghost use Rattle.skopeo_app.specs.Task.{place_at, are_same, apart, plan_of, asks_more, are_built, built, by_path, choice_of, copy_of, unbuilt_at, unbuilt_sync, task_in, IsSound, task_of};
+ghost use Rattle.skopeo_outside.specs.Steps.{Says};
+ghost use Rattle.skopeo_app.specs.Refusals.{is_output};
+ghost use Rattle.skopeo_app.specs.Courses.{command_course};
+ghost use Rattle.skopeo_app.specs.Plan.{place_at, is_folder, folder_in, are_same, apart, lanes_for, plan_of};
+ghost use Rattle.skopeo_app.specs.Task.{asks_more, are_built, built, by_path, choice_of, copy_of, unbuilt_at, unbuilt_sync, task_in, IsSound, task_of};
 
 use crate::refusal::{CommandRefusal, Unbuilt};
-use copy_engine::{CopyPlan, Refusal, folder_in, is_folder};
+use copy_engine::{CopyPlan, Refusal};
 use image_ref::{Place, PlaceFault, RefFault, clean_path, parse_named, parse_place};
 use skopeo_outside::{Memory, Text};
 use skopeo_words::{
@@ -42,15 +44,36 @@ pub enum Task {
 }
 
 /// The place of a text. Relative paths count from `cwd`.
-#[tactic(auto, unfolding(crate::specs::Task::place_at))]
+#[tactic(auto, unfolding(skopeo_outside::specs::Steps::Says, crate::specs::Courses::command_course, crate::specs::Plan::place_at))]
 fn place_at(alloc: Global, cwd: &str, text: &str) -> Result<Place, CommandRefusal>
-    ensures inner { IfErr result IsInner }
-    ensures answer { Answers result (Some (place_at cwd.now text.now)) }
+    ensures says { Says command_course (place_at cwd.now text.now) result }
+    ensures other { IfErr result (λ e. is_output e ≡ false) }
 {
     match parse_place(alloc, text, cwd) {
         Ok(place) => Ok(place),
         Err(PlaceFault::Memory) => Err(CommandRefusal::Image(Refusal::Memory)),
         Err(fault) => Err(CommandRefusal::Reference(Text::copy_of(alloc, text)?, fault)),
+    }
+}
+
+fn is_folder(place: &Place) -> bool
+    ensures { result ≡ is_folder place.now }
+{
+    match place {
+        Place::Docker(_) => false,
+        Place::Dir(_) => true,
+        Place::Oci(_, _) => false,
+    }
+}
+
+/// The folder of a place of the transport `dir`, and the empty text of any other.
+fn folder_in(place: &Place) -> &str
+    ensures { result.now ≡ folder_in place.now }
+{
+    match place {
+        Place::Docker(_) => "",
+        Place::Dir(path) => path.as_str(),
+        Place::Oci(_, _) => "",
     }
 }
 
@@ -62,10 +85,12 @@ fn are_same(plan: &CopyPlan) -> bool
         && folder_in(&plan.source) == folder_in(&plan.dest)
 }
 
+#[tactic(auto, unfolding(skopeo_outside::specs::Steps::Says, crate::specs::Courses::command_course))]
 fn apart(alloc: Global, plan: CopyPlan) -> Result<CopyPlan, CommandRefusal>
-    ensures inner { IfErr result IsInner }
     ensures apart { IfOk result (λ p. are_same p ≡ false) }
-    ensures answer { Answers result (Some (apart plan)) }
+    ensures lanes { IfOk result (λ p. p.lanes ≡ plan.lanes) }
+    ensures says { Says command_course (apart plan) result }
+    ensures other { IfErr result (λ e. is_output e ≡ false) }
 {
     if are_same(&plan) {
         let path = Text::copy_of(alloc, folder_in(&plan.source))?;
@@ -74,17 +99,35 @@ fn apart(alloc: Global, plan: CopyPlan) -> Result<CopyPlan, CommandRefusal>
     Ok(plan)
 }
 
-/// The places of a copy.
-#[tactic(auto, using(crate::proofs::TaskLemmas::then_ok, crate::proofs::TaskLemmas::then_err), unfolding(crate::specs::Task::plan_of))]
-fn plan_of(alloc: Global, cwd: &str, source: &str, dest: &str) -> Result<CopyPlan, CommandRefusal>
-    ensures inner { IfErr result IsInner }
+/// On how many first lanes blobs are carried.
+fn lanes_for(common: &Common) -> u32
+    ensures { result ≡ lanes_for common.now }
+{
+    common.lanes.max(1)
+}
+
+/// The places of a copy, and its lanes.
+#[tactic(auto, using(crate::proofs::TaskLemmas::then_says, crate::proofs::TaskLemmas::then_refuses), unfolding(crate::specs::Plan::plan_of))]
+fn plan_of(
+    alloc: Global,
+    cwd: &str,
+    lanes: u32,
+    source: &str,
+    dest: &str,
+) -> Result<CopyPlan, CommandRefusal>
     ensures apart { IfOk result (λ p. are_same p ≡ false) }
-    ensures answer { Answers result (Some (plan_of cwd.now source.now dest.now)) }
+    ensures lanes { IfOk result (λ p. p.lanes ≡ lanes) }
+    ensures says { Says command_course (plan_of cwd.now lanes source.now dest.now) result }
+    ensures other { IfErr result (λ e. is_output e ≡ false) }
 {
     let source = place_at(alloc, cwd, source)?;
     let dest = place_at(alloc, cwd, dest)?;
-    let plan = apart(alloc, CopyPlan { source, dest })?;
-    Ok(plan)
+    let plan = CopyPlan {
+        source,
+        dest,
+        lanes,
+    };
+    apart(alloc, plan)
 }
 
 fn asks_more(common: &Common, passing: &Passing, short_names: bool) -> bool
@@ -113,15 +156,16 @@ fn are_built(plan: &CopyPlan) -> bool
 }
 
 /// Refuses options and places that are not built yet.
+#[tactic(auto, unfolding(skopeo_outside::specs::Steps::Says, crate::specs::Courses::command_course))]
 fn require_built(
     common: &Common,
     passing: &Passing,
     short_names: bool,
     plan: &CopyPlan,
 ) -> Result<(), CommandRefusal>
-    ensures inner { IfErr result IsInner }
     ensures built { IfOk result (λ _. are_built plan.now ≡ true) }
-    ensures answer { Answers result (Some (built common.now passing.now short_names plan.now)) }
+    ensures says { Says command_course (built common.now passing.now short_names plan.now) result }
+    ensures other { IfErr result (λ e. is_output e ≡ false) }
 {
     if asks_more(common, passing, short_names) {
         return Err(CommandRefusal::NotBuilt(Unbuilt::Option));
@@ -146,7 +190,7 @@ fn choice_of(alloc: Global, cwd: &str, common: &Common) -> Result<PolicyChoice, 
 }
 
 /// A copy that is asked for with a command's options.
-#[tactic(auto, using(crate::proofs::TaskLemmas::then_ok, crate::proofs::TaskLemmas::then_err, crate::proofs::TaskLemmas::between), unfolding(crate::specs::Task::copy_of))]
+#[tactic(auto, using(crate::proofs::TaskLemmas::then_says, crate::proofs::TaskLemmas::then_refuses, crate::proofs::TaskLemmas::says_value, crate::proofs::TaskLemmas::says_memory, crate::proofs::TaskLemmas::sound), unfolding(crate::specs::Task::copy_of))]
 fn copy_of(
     alloc: Global,
     cwd: &str,
@@ -157,11 +201,11 @@ fn copy_of(
     source: &str,
     dest: &str,
 ) -> Result<Task, CommandRefusal>
-    ensures inner { IfErr result IsInner }
     ensures folders { IfOk result IsSound }
-    ensures answer { Answers result (Some (copy_of cwd.now common.now passing.now quiet short_names source.now dest.now)) }
+    ensures says { Says command_course (copy_of cwd.now common.now passing.now quiet short_names source.now dest.now) result }
+    ensures other { IfErr result (λ e. is_output e ≡ false) }
 {
-    let plan = plan_of(alloc, cwd, source, dest)?;
+    let plan = plan_of(alloc, cwd, lanes_for(common), source, dest)?;
     require_built(common, passing, short_names, &plan)?;
     let policy = choice_of(alloc, cwd, common)?;
     Ok(Task::Copy(CopyTask {
@@ -172,10 +216,10 @@ fn copy_of(
 }
 
 /// Reads the place of a command that is not built, and refuses it.
-#[tactic(auto, using(crate::proofs::TaskLemmas::then_ok, crate::proofs::TaskLemmas::then_err), unfolding(crate::specs::Task::unbuilt_at))]
+#[tactic(auto, using(crate::proofs::TaskLemmas::then_says, crate::proofs::TaskLemmas::then_refuses, crate::proofs::TaskLemmas::says_refusal), unfolding(crate::specs::Task::unbuilt_at))]
 fn unbuilt_at(alloc: Global, cwd: &str, text: &str) -> CommandRefusal
-    ensures inner { IsInner result }
-    ensures answer { Refuses {A = Task} result (Some (unbuilt_at cwd.now text.now)) }
+    ensures says { Says {A = Task} command_course (unbuilt_at cwd.now text.now) (Err result) }
+    ensures other { is_output result ≡ false }
 {
     match place_at(alloc, cwd, text) {
         Ok(_) => CommandRefusal::NotBuilt(Unbuilt::Command),
@@ -192,10 +236,10 @@ fn bad_name(alloc: Global, text: &str, fault: RefFault) -> Result<CommandRefusal
 }
 
 /// Reads the source of `sync`, and refuses the command.
-#[tactic(auto, unfolding(crate::specs::Task::unbuilt_sync))]
+#[tactic(auto, unfolding(skopeo_outside::specs::Steps::Says, crate::specs::Courses::command_course, crate::specs::Task::unbuilt_sync))]
 fn unbuilt_sync(alloc: Global, from: SyncEnd, text: &str) -> CommandRefusal
-    ensures inner { IsInner result }
-    ensures answer { Refuses {A = Task} result (Some (unbuilt_sync from text.now)) }
+    ensures says { Says {A = Task} command_course (unbuilt_sync from text.now) (Err result) }
+    ensures other { is_output result ≡ false }
 {
     let SyncEnd::Docker = from else {
         return CommandRefusal::NotBuilt(Unbuilt::Command);
@@ -210,11 +254,11 @@ fn unbuilt_sync(alloc: Global, from: SyncEnd, text: &str) -> CommandRefusal
     }
 }
 
-#[tactic(auto, unfolding(crate::specs::Task::task_in))]
+#[tactic(auto, unfolding(skopeo_outside::specs::Steps::Says, crate::specs::Courses::command_course, crate::specs::Task::task_in))]
 fn task_in(alloc: Global, cwd: &str, command: &Command) -> Result<Task, CommandRefusal>
-    ensures inner { IfErr result IsInner }
     ensures folders { IfOk result IsSound }
-    ensures answer { Answers result (Some (task_in cwd.now command.now)) }
+    ensures says { Says command_course (task_in cwd.now command.now) result }
+    ensures other { IfErr result (λ e. is_output e ≡ false) }
 {
     match command {
         Command::Copy {
@@ -245,11 +289,11 @@ fn task_in(alloc: Global, cwd: &str, command: &Command) -> Result<Task, CommandR
 }
 
 /// What the words ask for. Words are read first, then places, and then what is not built is refused.
-#[tactic(auto, unfolding(crate::specs::Task::task_of))]
+#[tactic(auto, unfolding(skopeo_outside::specs::Steps::Says, crate::specs::Courses::command_course, crate::specs::Task::task_of))]
 pub fn read_task(alloc: Global, words: &[String], cwd: &str) -> Result<Task, CommandRefusal>
-    ensures inner { IfErr result IsInner }
     ensures folders { IfOk result IsSound }
-    ensures answer { Answers result (Some (task_of (map string_bytes words.now) cwd.now)) }
+    ensures says { Says command_course (task_of (map string_bytes words.now) cwd.now) result }
+    ensures other { IfErr result (λ e. is_output e ≡ false) }
 {
     match read_words(alloc, words) {
         Ok(command) => task_in(alloc, cwd, &command),

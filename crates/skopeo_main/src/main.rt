@@ -2,7 +2,7 @@
 #![tactic(auto)]
 
 ghost use Rattle.std.specs.Prelude.{◌≡◌, ◌≤◌, IfOk};
-ghost use Rattle.copy_engine.specs.Lanes.{AreLanes};
+ghost use Rattle.skopeo_outside.specs.Seen.{AreLanes};
 
 mod begin;
 mod notes;
@@ -23,7 +23,7 @@ use stream::Stream;
 const LANES: u32 = 16;
 
 /// Sixteen lanes over real files, each numbered by its place.
-#[tactic(auto, using(crate::proofs::NumberLemmas::one_more, crate::proofs::NumberLemmas::are_lanes))]
+#[tactic(auto, using(skopeo_app::proofs::NumberLemmas::one_more, skopeo_app::proofs::NumberLemmas::are_lanes))]
 fn make_lanes<'r, R: Disk>(
     alloc: Global,
     rt: &'r R,

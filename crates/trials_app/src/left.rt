@@ -1,7 +1,34 @@
 // What a command left.
-use skopeo_outside::{Entry, Many, MemSink, Memory, Shelf, Text};
+use skopeo_outside::{Entry, Idle, Lane, Many, MemFiles, MemSink, Memory, Shelf, Text};
 use std::alloc::Global;
 use std::str::from_utf8;
+
+/// Adds what stands in `/w/dst` and was not there.
+fn add_new(alloc: Global, all: &mut Shelf, shelf: &Shelf) -> Result<(), Memory> {
+    let mut entries = Many::new(alloc);
+    shelf.list("/w/dst", &mut entries)?;
+    for entry in entries.as_slice() {
+        let name = entry.name.as_str();
+        let path = format!(in alloc; "/w/dst/{name}")?;
+        if entry.folder {
+            all.make_dir(path.as_str())?;
+        } else if all.get(path.as_str()).is_none() {
+            all.add(path.as_str(), shelf.get(path.as_str()).unwrap_or(&[]))?;
+        }
+    }
+    Ok(())
+}
+
+/// The first lane's files, and what else stands in `/w/dst` on another; of a path that several have, the first one's.
+pub fn gather(alloc: Global, mut lanes: Vec<Lane<Idle, MemFiles>>) -> Result<Shelf, Memory> {
+    let mut all = Shelf::new(alloc);
+    while let Some(lane) = lanes.pop() {
+        let mut shelf = lane.files.shelf;
+        add_new(alloc, &mut shelf, &all)?;
+        all = shelf;
+    }
+    Ok(all)
+}
 
 /// A folder of the destination by its name and a slash, a file by its name and its bytes: as a text up to 64, or their number.
 fn push_entry(alloc: Global, text: &mut Text, shelf: &Shelf, entry: &Entry) -> Result<(), Memory> {

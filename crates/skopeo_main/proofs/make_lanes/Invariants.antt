@@ -1,5 +1,5 @@
 use Rattle.std.proofs.Common.{◌≡◌, length}
-use Rattle.skopeo_main.specs.Numbered.{AreNumbered}
+use Rattle.skopeo_app.specs.Numbered.{AreNumbered}
 use Rattle.skopeo_main.proofs.make_lanes.Given as goal
 
 abbrev pub invariant-loop-number : goal.invariant-loop-number

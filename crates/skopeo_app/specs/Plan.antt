@@ -1,0 +1,61 @@
+-- The places of a copy, and its lanes.
+use Rattle.std.specs.Prelude.{◌≡◌, ◌&&◌, ◌<◌, [], List, ℕ, Bool, true, false, if◌then◌else◌, max, Result, Ok, Err}
+use Rattle.std.specs.Str.{bytes_eq}
+use Rattle.image_ref.specs.PlaceReading.{place_of}
+use Rattle.image_ref.specs.declared.place.Place.{Place}
+use Rattle.image_ref.specs.declared.place.Place.TheVariants as place
+use Rattle.image_ref.specs.declared.fault.PlaceFault.{PlaceFault}
+use Rattle.skopeo_words.specs.declared.command.Common.{Common}
+use Rattle.transports.specs.declared.plan.CopyPlan.{CopyPlan}
+use Rattle.transports.specs.Places.{IsBetweenPlaces}
+use Rattle.skopeo_app.specs.declared.refusal.CommandRefusal.{CommandRefusal}
+use Rattle.skopeo_app.specs.declared.refusal.CommandRefusal.TheVariants.{Reference, SamePlace}
+
+-- one step after the other: the first refusal counts
+infixl 10 ◌>>=◌
+abbrev pub ◌>>=◌ : {A B : Type 0} → Result A CommandRefusal → (A → Result B CommandRefusal) → Result B CommandRefusal
+(Ok x) >>= f = f x
+(Err e) >>= f = Err e
+
+-- a place, or its text and first fault
+abbrev pub or_reference : List ℕ → Result Place PlaceFault → Result Place CommandRefusal
+or_reference text (Ok place) = Ok place
+or_reference text (Err fault) = Err (Reference text fault)
+
+unfoldable pub place_at : List ℕ → List ℕ → Result Place CommandRefusal
+place_at cwd text = or_reference text (place_of cwd text)
+
+-- a place of the transport `dir`
+abbrev pub is_folder : Place → Bool
+is_folder (place.Docker reference) = false
+is_folder (place.Dir path) = true
+is_folder (place.Oci path tag) = false
+
+-- its folder
+abbrev pub folder_in : Place → List ℕ
+folder_in (place.Docker reference) = []
+folder_in (place.Dir path) = path
+folder_in (place.Oci path tag) = []
+
+-- two places that are one folder
+abbrev pub are_same : CopyPlan → Bool
+are_same plan = (is_folder plan.source && is_folder plan.dest) && bytes_eq (folder_in plan.source) (folder_in plan.dest)
+
+abbrev pub apart : CopyPlan → Result CopyPlan CommandRefusal
+apart plan = if are_same plan then Err (SamePlace (folder_in plan.source)) else Ok plan
+
+-- on how many first lanes blobs are carried: as many as `--lanes` says, which is at least one
+abbrev pub lanes_for : Common → ℕ
+lanes_for common = max common.lanes 1
+
+-- the places of a copy: the source is read first
+unfoldable pub plan_of : List ℕ → ℕ → List ℕ → List ℕ → Result CopyPlan CommandRefusal
+plan_of cwd lanes source dest = do
+  from ← place_at cwd source
+  to ← place_at cwd dest
+  apart (record { source = from; dest = to; lanes = lanes })
+
+-- what a copy needs: two places that are not one folder, and a lane
+pub record IsSoundPlan (plan : CopyPlan) : Type 0 where
+  pub places : IsBetweenPlaces plan
+  pub lanes : 0 < plan.lanes
