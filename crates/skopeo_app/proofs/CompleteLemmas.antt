@@ -1,5 +1,5 @@
 -- Where memory did not want, the command ended as its steps do.
-use Rattle.std.proofs.Common.{◌≡◌, Bool, true, false, List, ℕ, Result, Ok, Err, refl, sym, subst, ◌∙◌}
+use Rattle.std.proofs.Common.{◌≡◌, Bool, true, false, List, ℕ, Result, Ok, Err, refl, ◌∙◌}
 use Rattle.skopeo_outside.specs.Steps.{Ends, EndsBy}
 use Rattle.transports.specs.declared.refusal.Refusal.TheVariants as image
 use Rattle.skopeo_app.specs.declared.refusal.CommandRefusal.{CommandRefusal}

@@ -1,18 +1,13 @@
 -- What holds behind each step of the command: the words of its private contracts.
-use Rattle.std.specs.Prelude.{◌≡◌, ◌≤◌, ◌⊎◌, List, ℕ, true, false, Some, Result, Ok, Err, IfErr, IfOk, OnOk, slice_get}
-use Rattle.skopeo_outside.specs.Tree.{Tree}
+use Rattle.std.specs.Prelude.{◌≡◌, ◌⊎◌, List, ℕ, true, false, Some, Result, Ok, Err, IfErr, IfOk, OnOk, slice_get}
 use Rattle.skopeo_outside.specs.LaneTold.{LaneTold}
-use Rattle.skopeo_outside.specs.declared.stop.Stop.{Stop}
-use Rattle.skopeo_outside.specs.declared.stop.Stop.TheVariants as stop
-use Rattle.skopeo_outside.specs.Seen.{Seen, OnEach, KeepsFrom}
+use Rattle.skopeo_outside.specs.Seen.{Seen, KeepsFrom}
 use Rattle.skopeo_outside.specs.Steps.{Ends}
-use Rattle.skopeo_outside.specs.OnLanes.{LaneStep, on_first}
 use Rattle.policy_file.specs.PolicyLists.{PolicyLists}
 use Rattle.transports.specs.declared.plan.CopyPlan.{CopyPlan}
 use Rattle.transports.specs.declared.report.Copied.{Copied}
 use Rattle.transports.specs.declared.refusal.Refusal.TheVariants as image
 use Rattle.transports.specs.Writes.{Spot, IsWrite}
-use Rattle.transports.specs.Has.{IsUntouched}
 use Rattle.copy_engine.specs.Headline.{IsCopied, ImageHeadline}
 use Rattle.copy_engine.specs.Stops as engine
 use Rattle.copy_engine.specs.Delivered.{Delivers}
@@ -21,12 +16,10 @@ use Rattle.skopeo_app.specs.declared.refusal.CommandRefusal.{CommandRefusal}
 use Rattle.skopeo_app.specs.declared.refusal.CommandRefusal.TheVariants as refusal
 use Rattle.skopeo_app.specs.declared.run.Done.{Done}
 use Rattle.skopeo_app.specs.declared.task.CopyTask.{CopyTask}
-use Rattle.skopeo_app.specs.declared.task.PolicyChoice.{PolicyChoice}
 use Rattle.skopeo_app.specs.Sinks.{SinkTold, IsLaterSink, Gains, Gained}
 use Rattle.skopeo_app.specs.Refusals.{IsUnprinted, BlamesOutput, is_of_words, is_of_copy, is_ahead}
-use Rattle.skopeo_app.specs.Courses.{lane_course, seen_course, CommandTold, command_course}
+use Rattle.skopeo_app.specs.Courses.{seen_course, CommandTold, command_course}
 use Rattle.skopeo_app.specs.Task.{task_of, lanes_of}
-use Rattle.skopeo_app.specs.Policy.{by_tree, policy_end}
 use Rattle.skopeo_app.specs.Lines.{status_of, status_of_refusal, refusal_line, err_lines}
 use Rattle.skopeo_app.specs.Headline.{Counts, Headline, first_tree}
 use Rattle.skopeo_app.specs.Ending.{page_done, of_image, image_of_task, copy_end}

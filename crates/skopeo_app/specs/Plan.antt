@@ -1,5 +1,5 @@
 -- The places of a copy, and its lanes.
-use Rattle.std.specs.Prelude.{◌≡◌, ◌&&◌, ◌<◌, [], List, ℕ, Bool, true, false, if◌then◌else◌, max, Result, Ok, Err}
+use Rattle.std.specs.Prelude.{◌&&◌, ◌<◌, [], List, ℕ, Bool, true, false, if◌then◌else◌, max, Result, Ok, Err}
 use Rattle.std.specs.Str.{bytes_eq}
 use Rattle.image_ref.specs.PlaceReading.{place_of}
 use Rattle.image_ref.specs.declared.place.Place.{Place}

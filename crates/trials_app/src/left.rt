@@ -19,11 +19,22 @@ fn add_new(alloc: Global, all: &mut Shelf, shelf: &Shelf) -> Result<(), Memory> 
     Ok(())
 }
 
+fn shelf_of(lane: Lane<Idle, MemFiles>) -> Shelf {
+    let Lane {
+        from: _,
+        to: _,
+        files,
+        number: _,
+    } = lane;
+    let MemFiles { shelf, failures: _ } = files;
+    shelf
+}
+
 /// The first lane's files, and what else stands in `/w/dst` on another; of a path that several have, the first one's.
 pub fn gather(alloc: Global, mut lanes: Vec<Lane<Idle, MemFiles>>) -> Result<Shelf, Memory> {
     let mut all = Shelf::new(alloc);
     while let Some(lane) = lanes.pop() {
-        let mut shelf = lane.files.shelf;
+        let mut shelf = shelf_of(lane);
         add_new(alloc, &mut shelf, &all)?;
         all = shelf;
     }
