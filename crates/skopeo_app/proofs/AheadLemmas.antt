@@ -201,8 +201,8 @@ image_rests plan policy to e x y some ahead end =
     refused_then (on_first lane_course (admission plan policy)) (λ it. placing it.from to it.image)
     (λ s t. 0 < length t.lanes → Untouched s t) e
     (λ s m t it one two some. each_then (λ place a b. IsUntouched a b) (λ place a b. IsUntouched a b) (λ place a b. IsUntouched a b) (λ place a b c p q. untouched_then a b c p q) s.lanes m.lanes t.lanes
-        (on_each (admission plan policy) s m (Ok it) (λ a b v. rests_admission plan policy a b (Ok it) (value_of (admission plan policy) a b it v)) one)
-        (placing_rests it.from to it.image e m t some ahead two))
+    (on_each (admission plan policy) s m (Ok it) (λ a b v. rests_admission plan policy a b (Ok it) (value_of (admission plan policy) a b it v)) one)
+    (placing_rests it.from to it.image e m t some ahead two))
     (λ s t one some. on_each (admission plan policy) s t (Err e) (λ a b v. rests_admission plan policy a b (Err e) (not_free (admission plan policy) a b e (ahead_free e ahead) v)) one) x y end some
 
 walk_rests : (plan : CopyPlan) (policy : PolicyLists) (e : Refusal) (x y : Seen) → 0 < length y.lanes → is_ahead (Image e) ≡ true → image_end plan policy x y (Err e) → Untouched x y

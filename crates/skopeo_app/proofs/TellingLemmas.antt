@@ -39,4 +39,3 @@ refused e code before after t = by t.same
     by : (t.told ≡ e) ⊎ (t.told ≡ refusal.Image image.Memory) → Finishes (Err e) code before after
     by (inl same) = record { answer = Err t.told; same = inl (ap Err same); status = t.status; line = t.line; later = t.later }
     by (inr same) = record { answer = Err t.told; same = inr (ap Err same); status = t.status; line = t.line; later = t.later }
-
