@@ -13,6 +13,7 @@ use Rattle.transports.specs.declared.refusal.Refusal.{Refusal}
 use Rattle.transports.specs.Places.{dest_at}
 use Rattle.transports.specs.Courses.{lane_course}
 use Rattle.transports.specs.StepEnds.{taking, putting}
+use Rattle.transports.specs.Fair.{AllWork}
 use Rattle.admission.specs.Admission.{Admission}
 use Rattle.admission.specs.Walk.{admission}
 use Rattle.copy_jobs.specs.Secured.{JobsEnd}
@@ -23,9 +24,9 @@ abbrev pub forget : {A : Type 0} → Result A Refusal → Result ⊤ Refusal
 forget (Ok x) = Ok tt
 forget (Err e) = Err e
 
--- all jobs, on the lanes that are used
+-- all jobs, on the lanes that are used; each lane works at the destination alone
 unfoldable pub securing : Source → Dest → List Job → SeenStep Refusal ⊤
-securing from to jobs old new r = JobsEnd from to jobs old.lanes new.lanes r × (new.helper ≡ old.helper)
+securing from to jobs old new r = JobsEnd from to jobs old.lanes new.lanes r × AllWork to old.lanes new.lanes × (new.helper ≡ old.helper)
 
 -- the destination is taken, and then the jobs are done
 unfoldable pub readying : Source → Dest → List Job → SeenStep Refusal ⊤
