@@ -1,10 +1,17 @@
 //! Rows as data: each line of the input is a call of a layer, and is printed with what that call answers.
 #![tactic(auto)]
 
+mod confs;
+mod gates;
 mod images;
 mod names;
 mod policies;
+mod questions;
+mod replies;
+mod rules;
 mod scopes;
+mod shorts;
+mod sources;
 mod sums;
 mod trees;
 mod words;
@@ -13,7 +20,39 @@ use skopeo_outside::{Memory, Text};
 use std::alloc::Global;
 use std::io;
 
-/// What a call on manifests, trees or digests answers, and a dash for what is no call.
+/// What a call on registries.conf or on the identity rules answers, and a dash for what is no call.
+fn conf_answer(alloc: Global, call: &str, input: &str) -> Result<Text, Memory> {
+    match call {
+        "read" => confs::read(alloc, input),
+        "settings" => confs::settings(alloc, input),
+        "prefix" => sources::prefix(alloc, input),
+        "sources" => sources::sources(alloc, input),
+        "insecure" => sources::insecure(alloc, input),
+        "short" => shorts::short(alloc, input),
+        "is-short" => shorts::is_short_name(alloc, input),
+        "rule" => rules::rule(alloc, input),
+        _ => Text::from_str(alloc, "-"),
+    }
+}
+
+/// What a call on policies, scopes, payloads or gates answers, or one of those above.
+fn policy_answer(alloc: Global, call: &str, input: &str) -> Result<Text, Memory> {
+    match call {
+        "policy" => policies::policy(alloc, input.as_bytes()),
+        "policy-bytes" => policies::policy_bytes(alloc, input),
+        "lists" => policies::lists(alloc, input),
+        "choice" => scopes::choice(alloc, input),
+        "compared" => scopes::compared(alloc, input),
+        "scopes" => scopes::scopes(alloc, input),
+        "payload" => questions::payload(alloc, input),
+        "ask" => questions::ask_once(alloc, input),
+        "input" => questions::input(alloc, input),
+        "gate" => gates::gate(alloc, input),
+        _ => conf_answer(alloc, call, input),
+    }
+}
+
+/// What a call on manifests, trees or digests answers, or one of those above.
 fn image_answer(alloc: Global, call: &str, input: &str) -> Result<Text, Memory> {
     match call {
         "image" => images::image(alloc, input.as_bytes()),
@@ -29,7 +68,7 @@ fn image_answer(alloc: Global, call: &str, input: &str) -> Result<Text, Memory> 
         "sum" => sums::sum(alloc, input.as_bytes()),
         "sum-bytes" => sums::sum_bytes(alloc, input),
         "pieces" => sums::pieces(alloc, input),
-        _ => Text::from_str(alloc, "-"),
+        _ => policy_answer(alloc, call, input),
     }
 }
 
@@ -43,12 +82,6 @@ fn answer(alloc: Global, call: &str, input: &str) -> Result<Text, Memory> {
         "digests" => names::digests(alloc, input),
         "path" => names::path(alloc, input),
         "place" => names::place(alloc, input),
-        "policy" => policies::policy(alloc, input.as_bytes()),
-        "policy-bytes" => policies::policy_bytes(alloc, input),
-        "lists" => policies::lists(alloc, input),
-        "choice" => scopes::choice(alloc, input),
-        "compared" => scopes::compared(alloc, input),
-        "scopes" => scopes::scopes(alloc, input),
         "words" => words::words(alloc, input),
         "page" => words::page(alloc, input),
         _ => image_answer(alloc, call, input),

@@ -1,4 +1,4 @@
-//! Rows as data: each line of the input is a message, an exchange or a request, and is printed with what it comes to.
+//! Rows as data: each line of the input is a message, an exchange, a request or a step at a registry, and is printed with what it comes to.
 #![tactic(auto)]
 
 mod bodies;
@@ -10,12 +10,13 @@ mod registry;
 mod requests;
 mod script;
 mod spelling;
+mod steps;
 
 use skopeo_outside::{Memory, Text};
 use std::alloc::Global;
 use std::io;
 
-/// What the call of a row answers. A call that is none of these is the method of a request.
+/// What the call of a row answers. A call that is neither one of these nor a step is the method of a request.
 fn answer(alloc: Global, call: &str, input: &str) -> Result<Text, Memory> {
     match call {
         "head" => messages::head(alloc, input),
@@ -32,7 +33,10 @@ fn answer(alloc: Global, call: &str, input: &str) -> Result<Text, Memory> {
         "registry" => registry::registry(alloc, input),
         "connection" => labs::connection(alloc, input),
         "task" => labs::task(alloc, input),
-        method => exchanges::exchanged(alloc, method, input),
+        call => match steps::answer(alloc, call, input)? {
+            Some(answer) => Ok(answer),
+            None => exchanges::exchanged(alloc, call, input),
+        },
     }
 }
 
