@@ -1,4 +1,4 @@
-ghost use Rattle.std.specs.Prelude.{◌≡◌, OnOk, IfOk, All, map};
+ghost use Rattle.std.specs.Prelude.{◌≡◌, OnOk, OnErr, IfOk, All, map};
 ghost use Rattle.serde_json.specs.Data.{Data, string, array, object, no_members, put};
 ghost use Rattle.serde_json.specs.View.{view, items_of, members_view};
 ghost use Rattle.json_tree.specs.Build.{WasMade, put_all};
@@ -7,14 +7,15 @@ use serde_json::{Map, Value};
 use skopeo_outside::{Memory, Pair, Text};
 use std::alloc::Global;
 
-/// Adds a member, in the place of one with that name.
+/// Adds a member, in the place of one with that name. Where memory is wanting the members stay as they were.
 pub fn put(
     alloc: Global,
     members: &mut Map<String, Value>,
     name: &str,
     value: Value,
 ) -> Result<(), Memory>
-    ensures { OnOk result (members_view members.new.entries ≡ put name.now (view value) (members_view members.old.entries)) }
+    ensures put { OnOk result (members_view members.new.entries ≡ put name.now (view value) (members_view members.old.entries)) }
+    ensures kept { OnErr result (members.new.entries ≡ members.old.entries) }
 {
     let name = String::from_str(alloc, name)?;
     members.insert(name, value)?;

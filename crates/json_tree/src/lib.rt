@@ -14,4 +14,4 @@ pub use leaf::{
     push, read_items, read_members, read_optional_list, read_optional_object, read_text, read_whole,
 };
 pub use path::{Path, Step};
-pub use tree::read_tree;
+pub use tree::{Parsed, read_tree};

@@ -1,11 +1,14 @@
 -- The laws of an image's blobs.
-use Rattle.std.proofs.Common.{◌≡◌, ◌≢◌, ◌⊎◌, inl, inr, ℕ, zero, suc, ◌+◌, ◌<◌, cond, not, Bool, true, false, List, [], ◌∷◌, length, filter, get_or, refl, sym, ap, ◌∙◌, arith}
+use Rattle.std.proofs.Common.{◌≡◌, ◌≢◌, ◌⊎◌, inl, inr, ℕ, zero, suc, ◌+◌, ◌<◌, cond, not, Bool, true, false, List, [], ◌∷◌, Result, Ok, Err, length, filter, get_or, refl, sym, ap, subst, ◌∙◌, arith}
+use Rattle.std.specs.Prelude.{IfOk}
 use Rattle.std.specs.Str.{bytes_eq}
 use Rattle.std.proofs.lemmas.Slice.Eq.{bytes_eq-Decides}
+use Rattle.skopeo_outside.specs.declared.stop.Memory.{Memory}
 use Rattle.digest_reader.specs.declared.job.Job.{Job}
 use Rattle.manifest_v2s2.specs.declared.descriptor.Descriptor.{Descriptor}
 use Rattle.manifest_v2s2.specs.declared.image.Image.{Image}
-use Rattle.manifest_convert.specs.Blobs.{descriptors, is_other, firsts, job_of, numbered, blobs, IsFor, AreJobsOf}
+use Rattle.manifest_convert.specs.Blobs.{descriptors, is_other, firsts, job_of, numbered, blobs, IsFor, StandsFirst, AreJobsOf}
+use Rattle.manifest_convert.proofs.OrderLemmas.{some_descriptor, firsts-stand, firsts-order}
 
 pub cases_Bool : (b : Bool) → (b ≡ true) ⊎ (b ≡ false)
 cases_Bool true = inl refl
@@ -85,26 +88,8 @@ differ-at (x ∷ xs) (suc j) (suc k) e h less lt same = differ-at xs j k e h.1 (
 abbrev IsPlaced : List Descriptor → Descriptor → Descriptor → Type 0
 IsPlaced xs e y = (i : ℕ) × (i < length xs) × (y ≡ get_or xs i e)
 
-kept-from : (b : Bool) (x : Descriptor) (ys xs : List Descriptor) (k : ℕ) (e : Descriptor) → ((m : ℕ) → m < length ys → IsPlaced xs e (get_or ys m e))
-    → k < length (cond b (x ∷ ys) ys) → IsPlaced (x ∷ xs) e (get_or (cond b (x ∷ ys) ys) k e)
-kept-from true x ys xs zero e f lt = (zero, omega arith, refl)
-kept-from true x ys xs (suc k) e f lt = let h = f k (omega arith) in (suc h.0, omega (arith, h.1), h.2)
-kept-from false x ys xs k e f lt = let h = f k lt in (suc h.0, omega (arith, h.1), h.2)
-
-filter-from : (p : Descriptor → Bool) (xs : List Descriptor) (e : Descriptor) (k : ℕ) → k < length (filter p xs) → IsPlaced xs e (get_or (filter p xs) k e)
-filter-from p [] e k lt = absurd (omega arith)
-filter-from p (x ∷ xs) e k lt = kept-from (p x) x (filter p xs) xs k e (filter-from p xs e) lt
-
 placed-later : (x : Descriptor) (xs : List Descriptor) (e y : Descriptor) → IsPlaced xs e y → IsPlaced (x ∷ xs) e y
 placed-later x xs e y h = (suc h.0, omega (arith, h.1), h.2)
-
-firsts-from : (xs : List Descriptor) (e : Descriptor) (k : ℕ) → k < length (firsts xs) → IsPlaced xs e (get_or (firsts xs) k e)
-firsts-from [] e k lt = absurd (omega arith)
-firsts-from (x ∷ xs) e zero lt = (zero, omega arith, refl)
-firsts-from (x ∷ xs) e (suc k) lt =
-    let here = filter-from (is_other x.digest) (firsts xs) e k (omega arith) in
-    let there = firsts-from xs e here.0 here.1 in
-    placed-later x xs e (get_or (filter (is_other x.digest) (firsts xs)) k e) (there.0, there.1, here.2 ∙ there.2)
 
 kept-here : (b : Bool) (x : Descriptor) (ys : List Descriptor) (e : Descriptor) → b ≡ true → IsPlaced (cond b (x ∷ ys) ys) e x
 kept-here true x ys e h = (zero, omega arith, refl)
@@ -142,14 +127,9 @@ firsts-all (x ∷ xs) e (suc i) lt = occurs-behind x (firsts xs) e (get_or xs i 
 job-digest : (xs : List Descriptor) (k : ℕ) (d : Job) (e : Descriptor) → k < length xs → (get_or (numbered 1 xs) k d).digest ≡ (get_or xs k e).digest
 job-digest xs k d e lt = ap (λ (j : Job). j.digest) (at-numbered 1 xs k d e lt)
 
--- some descriptor, where there is a place in a list
-some_descriptor : (xs : List Descriptor) (k : ℕ) → k < length xs → Descriptor
-some_descriptor [] k lt = absurd (omega arith)
-some_descriptor (x ∷ xs) k lt = x
-
 -- what holds of the jobs of some descriptors
 pub are-jobs : (xs : List Descriptor) → AreJobsOf xs (numbered 1 (firsts xs))
-are-jobs xs = record { distinct = distinct; numbers = numbers; from = from; «all» = every }
+are-jobs xs = record { distinct = distinct; numbers = numbers; from = from; «all» = every; order = order }
   where
     shorter : (k : ℕ) → k < length (numbered 1 (firsts xs)) → k < length (firsts xs)
     shorter k lt = let n = length-numbered 1 (firsts xs) in omega (arith, n)
@@ -166,17 +146,27 @@ are-jobs xs = record { distinct = distinct; numbers = numbers; from = from; «al
         let swapped : 1 + k ≡ k + 1 = omega arith in
         ap (λ (j : Job). j.number) (at-numbered 1 (firsts xs) k d e (shorter k lt)) ∙ swapped
 
-    from : (k : ℕ) (d : Job) (e : Descriptor) → k < length (numbered 1 (firsts xs)) → (i : ℕ) × (i < length xs) × IsFor (get_or (numbered 1 (firsts xs)) k d) (get_or xs i e)
+    from : (k : ℕ) (d : Job) (e : Descriptor) → k < length (numbered 1 (firsts xs))
+        → (i : ℕ) × StandsFirst xs (get_or (numbered 1 (firsts xs)) k d).digest i × IsFor (get_or (numbered 1 (firsts xs)) k d) (get_or xs i e)
     from k d e lt =
-        let place = firsts-from xs e k (shorter k lt) in
+        let place = firsts-stand xs e k (shorter k lt) in
         let job = at-numbered 1 (firsts xs) k d e (shorter k lt) in (
           place.0,
-          place.1,
+          subst (λ digest. StandsFirst xs digest place.0) (sym (job-digest (firsts xs) k d e (shorter k lt))) place.1,
           record {
             digest = ap (λ (j : Job). j.digest) job ∙ ap (λ (y : Descriptor). y.digest) place.2;
             size = ap (λ (j : Job). j.size) job ∙ ap (λ (y : Descriptor). y.size) place.2;
           },
         )
+
+    order : (j k : ℕ) (d : Job) (a b : ℕ) → j < k → k < length (numbered 1 (firsts xs))
+        → StandsFirst xs (get_or (numbered 1 (firsts xs)) j d).digest a → StandsFirst xs (get_or (numbered 1 (firsts xs)) k d).digest b → a < b
+    order j k d a b less lt ha hb =
+        let e = some_descriptor (firsts xs) k (shorter k lt) in
+        let earlier : j < length (firsts xs) = let l = shorter k lt in omega (arith, l, less) in
+        firsts-order xs e j k a b less (shorter k lt)
+        (subst (λ digest. StandsFirst xs digest a) (job-digest (firsts xs) j d e earlier) ha)
+        (subst (λ digest. StandsFirst xs digest b) (job-digest (firsts xs) k d e (shorter k lt)) hb)
 
     every : (i : ℕ) (d : Job) (e : Descriptor) → i < length xs → (k : ℕ) × (k < length (numbered 1 (firsts xs))) × ((get_or (numbered 1 (firsts xs)) k d).digest ≡ (get_or xs i e).digest)
     every i d e lt =
@@ -188,3 +178,8 @@ are-jobs xs = record { distinct = distinct; numbers = numbers; from = from; «al
 pub AreJobsOf-blobs : (image : Image) → AreJobsOf (descriptors image) (blobs image)
 unfolding blobs
 AreJobsOf-blobs image = are-jobs (descriptors image)
+
+-- so are those that a call answers
+pub AreJobsOf-answered : (image : Image) (r : Result (List Job) Memory) → IfOk r (λ jobs. jobs ≡ blobs image) → IfOk r (λ jobs. AreJobsOf (descriptors image) jobs)
+AreJobsOf-answered image (Ok jobs) e = subst (AreJobsOf (descriptors image)) (sym e) (AreJobsOf-blobs image)
+AreJobsOf-answered image (Err e) h = h

@@ -1,3 +1,5 @@
 pub mod BlobLemmas
 pub mod SeenLemmas
 pub mod KindLemmas
+pub mod GivenLemmas
+pub mod OrderLemmas

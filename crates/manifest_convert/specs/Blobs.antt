@@ -40,19 +40,28 @@ pub record IsFor (job : Job) (x : Descriptor) : Type 0 where
   pub digest : job.digest ≡ x.digest
   pub size : job.size ≡ x.size
 
--- what holds of the jobs of some descriptors
+-- of the descriptors of a digest the first one stands at this place
+pub record StandsFirst (xs : List Descriptor) (digest : List ℕ) (i : ℕ) : Type 0 where
+  pub there : i < length xs
+  pub has : (e : Descriptor) → (slice_index_or xs i e).digest ≡ digest
+  pub none_before : (h : ℕ) (e : Descriptor) → h < i → (slice_index_or xs h e).digest ≢ digest
+
+-- the jobs of some descriptors: each blob is one job
 pub record AreJobsOf (xs : List Descriptor) (jobs : List Job) : Type 0 where
   -- no two have one digest
   pub distinct : (j k : ℕ) (d : Job) → j < k → k < length jobs
       → (slice_index_or jobs j d).digest ≢ (slice_index_or jobs k d).digest
   -- their numbers count from 1
   pub numbers : (k : ℕ) (d : Job) → k < length jobs → (slice_index_or jobs k d).number ≡ k + 1
-  -- each is one of the descriptors
+  -- each is of the first descriptor of its digest
   pub from : (k : ℕ) (d : Job) (e : Descriptor) → k < length jobs
-      → (i : ℕ) × (i < length xs) × IsFor (slice_index_or jobs k d) (slice_index_or xs i e)
+      → (i : ℕ) × StandsFirst xs (slice_index_or jobs k d).digest i × IsFor (slice_index_or jobs k d) (slice_index_or xs i e)
   -- each descriptor's digest is that of some job
   pub all : (i : ℕ) (d : Job) (e : Descriptor) → i < length xs
       → (k : ℕ) × (k < length jobs) × ((slice_index_or jobs k d).digest ≡ (slice_index_or xs i e).digest)
+  -- they stand in the order of these first descriptors
+  pub order : (j k : ℕ) (d : Job) (a b : ℕ) → j < k → k < length jobs
+      → StandsFirst xs (slice_index_or jobs j d).digest a → StandsFirst xs (slice_index_or jobs k d).digest b → a < b
 
 -- a descriptor has the digest
 abbrev pub has_digest : List Descriptor → List ℕ → Bool

@@ -1,6 +1,6 @@
 ghost use Rattle.std.specs.Prelude.{◌≡◌, ◌-◌, ◌<◌, ◌^◌, ◌++◌, ◌∷◌, [], List, length, IfOk, OnOk};
 ghost use Rattle.manifest_v2s2.specs.declared.descriptor.Descriptor.{Descriptor};
-ghost use Rattle.manifest_convert.specs.Blobs.{HasSeen, blobs, descriptors};
+ghost use Rattle.manifest_convert.specs.Blobs.{AreJobsOf, HasSeen, blobs, descriptors};
 
 use digest_reader::Job;
 use image_ref::Digest;
@@ -31,10 +31,8 @@ fn add_blob(
     })
 }
 
-/// The jobs of an image: its config, then its layers, first occurrences only, numbered from 1. An image has fewer than
-/// 2^32 - 16 descriptors.
 #[tactic(auto, unfolding(crate::specs::Blobs::blobs))]
-pub fn blobs_of(alloc: Global, image: &Image) -> Result<Many<Job>, Memory>
+fn first_blobs(alloc: Global, image: &Image) -> Result<Many<Job>, Memory>
     requires { length (descriptors image.now) < 2 ^ 32 - 16 }
     ensures { IfOk result (λ jobs. jobs ≡ blobs image.now) }
 {
@@ -45,4 +43,15 @@ pub fn blobs_of(alloc: Global, image: &Image) -> Result<Many<Job>, Memory>
         add_blob(&mut seen, &mut jobs, layer)?;
     }
     Ok(jobs)
+}
+
+/// The jobs of an image: its config, then its layers, first occurrences only, numbered from 1. An image has fewer than
+/// 2^32 - 16 descriptors.
+pub fn blobs_of(alloc: Global, image: &Image) -> Result<Many<Job>, Memory>
+    requires { length (descriptors image.now) < 2 ^ 32 - 16 }
+    ensures exact { IfOk result (λ jobs. jobs ≡ blobs image.now) }
+    // The same as a relation.
+    ensures jobs { IfOk result (λ jobs. AreJobsOf (descriptors image.now) jobs) }
+{
+    first_blobs(alloc, image)
 }

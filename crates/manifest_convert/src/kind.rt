@@ -1,16 +1,18 @@
 ghost use Rattle.std.specs.Prelude.{◌≡◌, Option, option_map, ⊤};
 ghost use Rattle.serde_json.specs.View.{view};
 ghost use Rattle.json_tree.specs.Checked.{Checked, Gives, checked_map};
+ghost use Rattle.json_tree.specs.Parsed.{tree_of};
 ghost use Rattle.json_tree.specs.Tree.{tree};
-ghost use Rattle.manifest_v2s2.specs.Calls.{Reads, NamesFirstBad};
+ghost use Rattle.manifest_v2s2.specs.Calls.{Reads, NamesFirstBad, TellsOnly};
 ghost use Rattle.manifest_v2s2.specs.Descriptor.{checked_some};
 ghost use Rattle.manifest_v2s2.specs.Media.{is_list};
 ghost use Rattle.manifest_convert.specs.Kinds.{or_else, kind_shown, kind_by_media, kind_given, absent_where, is_image, Members, kind_in, kind_checked, kind_of};
 ghost use Rattle.manifest_convert.specs.Types.{bare, kind_named};
+ghost use Rattle.manifest_convert.specs.HasKind.{HasKind};
 ghost use Rattle.manifest_convert.specs.BadKind.{BadKind};
 
 use crate::content::{bare, kind_named};
-use json_tree::{Fault, Path, at, both, read_tree};
+use json_tree::{Fault, Parsed, Path, at, both};
 use manifest_v2s2::{Kind, ManifestFault, read_absent, read_version, told};
 use serde_json::Value;
 use std::alloc::Global;
@@ -130,20 +132,46 @@ fn kind_in_tree(alloc: Global, value: Option<&Value>, content_type: &str) -> Res
     }
 }
 
+fn kind_in_parsed(
+    alloc: Global,
+    parsed: &Parsed,
+    content_type: &str,
+) -> Result<Kind, ManifestFault>
+    ensures { Reads result (kind_of content_type.now (tree_of parsed.now)) }
+{
+    told(alloc, kind_in_tree(alloc, parsed.root(), content_type))
+}
+
 fn kind_of_bytes(alloc: Global, bytes: &[u8], content_type: &str) -> Result<Kind, ManifestFault>
     ensures { Reads result (kind_of content_type.now (tree bytes.now)) }
 {
-    let value = read_tree(alloc, bytes)?;
-    told(alloc, kind_in_tree(alloc, value.as_ref(), content_type))
+    let parsed = Parsed::of(alloc, bytes)?;
+    kind_in_parsed(alloc, &parsed, content_type)
 }
 
-/// The kind of manifest that the bytes are, which came under a content type (empty where there was none).
+/// The kind of manifest that bytes are which were parsed before, and came under a content type (empty where there was
+/// none).
 ///
 /// A fault is the pointer (RFC 6901) of the first bad member in byte order of names; the empty pointer where the
 /// bytes are no JSON object.
+pub fn kind_of_parsed(
+    alloc: Global,
+    parsed: &Parsed,
+    content_type: &str,
+) -> Result<Kind, ManifestFault>
+    ensures exact { Reads result (kind_of content_type.now (tree_of parsed.now)) }
+    ensures first { NamesFirstBad result (BadKind content_type.now (tree_of parsed.now)) }
+    // The same by the rows of the table.
+    ensures rows { TellsOnly (HasKind content_type.now (tree_of parsed.now)) result }
+{
+    kind_in_parsed(alloc, parsed, content_type)
+}
+
+/// The kind of manifest that the bytes are; faults are those of `kind_of_parsed`.
 pub fn kind_of(alloc: Global, bytes: &[u8], content_type: &str) -> Result<Kind, ManifestFault>
     ensures exact { Reads result (kind_of content_type.now (tree bytes.now)) }
     ensures first { NamesFirstBad result (BadKind content_type.now (tree bytes.now)) }
+    ensures rows { TellsOnly (HasKind content_type.now (tree bytes.now)) result }
 {
     kind_of_bytes(alloc, bytes, content_type)
 }

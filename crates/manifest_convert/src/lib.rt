@@ -8,4 +8,4 @@ mod kind;
 
 pub use any::read_any_image;
 pub use blobs::blobs_of;
-pub use kind::kind_of;
+pub use kind::{kind_of, kind_of_parsed};

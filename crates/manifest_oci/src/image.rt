@@ -3,11 +3,11 @@ ghost use Rattle.serde_json.specs.Written.{compact_text};
 ghost use Rattle.json_tree.specs.Tree.{tree};
 ghost use Rattle.manifest_v2s2.specs.declared.kind.Kind.TheVariants.{Oci};
 ghost use Rattle.manifest_v2s2.specs.Bad.{BadImage};
-ghost use Rattle.manifest_v2s2.specs.Calls.{Reads, NamesFirstBad};
+ghost use Rattle.manifest_v2s2.specs.Calls.{Reads, NamesFirstBad, TellsOnly};
 ghost use Rattle.manifest_v2s2.specs.Image.{image_of};
 ghost use Rattle.manifest_v2s2.specs.Written.{image_data};
 ghost use Rattle.manifest_oci.specs.OciImage.{SaysOciImage};
-ghost use Rattle.manifest_oci.specs.Calls.{TellsOnly, IsWritableOci};
+ghost use Rattle.manifest_oci.specs.Calls.{IsWritableOci};
 
 use manifest_v2s2::{Image, Kind, ManifestFault, read_image_as};
 use skopeo_outside::{Many, Memory};

@@ -6,3 +6,5 @@ pub mod ReadLemmas
 pub mod WrittenLemmas
 pub mod RoundTrip
 pub mod Relation
+pub mod IsDescriptorLemmas
+pub mod IsImageLemmas

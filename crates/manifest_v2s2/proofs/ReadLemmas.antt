@@ -1,5 +1,6 @@
 -- From the reading of a tree to the clauses on bytes.
-use Rattle.std.proofs.Common.{ℕ, List, Result, Ok, Err}
+use Rattle.std.proofs.Common.{◌≡◌, ℕ, List, Option, Result, Ok, Err}
+use Rattle.serde_json.specs.Data.{Data}
 use Rattle.json_tree.specs.Tree.{tree}
 use Rattle.json_tree.proofs.SortedLemmas.{sorted-tree}
 use Rattle.manifest_v2s2.specs.Bad.{BadImage}
@@ -16,3 +17,7 @@ pub first-image : (kind : Kind) (bytes : List ℕ) (r : Result Image ManifestFau
 first-image kind bytes (Ok i) h = rw h at (names-image kind (tree bytes) (sorted-tree bytes))
 first-image kind bytes (Err (Member text)) h = (h.0, rw h.1 at (names-image kind (tree bytes) (sorted-tree bytes)), h.2)
 first-image kind bytes (Err Memory) h = tt
+
+-- so does what is read of a tree that bytes are
+pub first-parsed : (kind : Kind) (o : Option Data) (r : Result Image ManifestFault) → Reads r (image_of kind o) → (bytes : List ℕ) → o ≡ tree bytes → NamesFirstBad r (BadImage kind (tree bytes))
+first-parsed kind o r h bytes e = first-image kind bytes r (rw e at h)

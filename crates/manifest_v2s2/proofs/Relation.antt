@@ -13,13 +13,13 @@ use Rattle.json_tree.specs.Checked.{Checked, under, both, checked_map, with_firs
 use Rattle.json_tree.specs.Leaf.{text_of, whole_of, items_by, members_by, optional_list, optional_object}
 use Rattle.json_tree.specs.Build.{pairs_data}
 use Rattle.manifest_v2s2.specs.Descriptor.{made, descriptor_of, digest_checked, annotation_of, agreeing, checked_some}
-use Rattle.manifest_v2s2.specs.Known.{first_size, agrees}
+use Rattle.manifest_v2s2.specs.Known.{Differs, first_size, agrees}
 use Rattle.manifest_v2s2.specs.IsImage.{AreTexts, ArePairs, IsDescriptor}
 use Rattle.manifest_v2s2.specs.declared.descriptor.Descriptor.{Descriptor}
 use Rattle.manifest_v2s2.specs.declared.sizes.Known.{Known}
 use Rattle.manifest_v2s2.proofs.SizeLemmas.{IsSettled, agrees-settles}
 
-both_ok : {A B : Type 0} (x : Checked A) (y : Checked B) (a : A) (b : B) → both x y ≡ Ok (a, b) → (x ≡ Ok a) × (y ≡ Ok b)
+pub both_ok : {A B : Type 0} (x : Checked A) (y : Checked B) (a : A) (b : B) → both x y ≡ Ok (a, b) → (x ≡ Ok a) × (y ≡ Ok b)
 both_ok (Ok x) (Ok y) a b h =
     let e = ap (λ (r : Checked _). fst_or (x, y) r) h in (ap Ok (ap (λ p. p.0) e), ap Ok (ap (λ p. p.1) e))
   where
@@ -30,7 +30,7 @@ both_ok (Ok x) (Err q) a b h = cc h
 both_ok (Err p) (Ok y) a b h = cc h
 both_ok (Err p) (Err q) a b h = cc h
 
-under_ok : {A : Type 0} (s : Step) (x : Checked A) (a : A) → under s x ≡ Ok a → x ≡ Ok a
+pub under_ok : {A : Type 0} (s : Step) (x : Checked A) (a : A) → under s x ≡ Ok a → x ≡ Ok a
 under_ok s (Ok x) a h = h
 under_ok s (Err p) a h = cc h
 
@@ -140,12 +140,12 @@ agreeing_ok known (Ok d) (Ok m) n h = let w = tested (agrees (first_size known d
 agreeing_ok known (Ok d) (Err p) n h = cc h
 agreeing_ok known (Err q) y n h = (h, λ d e. cc e)
 
-map_ok : {A B : Type 0} (f : A → B) (x : Checked A) (b : B) → checked_map f x ≡ Ok b → (a : A) × (x ≡ Ok a) × (f a ≡ b)
+pub map_ok : {A B : Type 0} (f : A → B) (x : Checked A) (b : B) → checked_map f x ≡ Ok b → (a : A) × (x ≡ Ok a) × (f a ≡ b)
 map_ok f (Ok a) b h = (a, refl, cc h)
 map_ok f (Err p) b h = cc h
 
--- what is read as a descriptor is one
-pub descriptor-ok : (known : List Known) → IsSettled known → (ms : Members) (x : Descriptor) → descriptor_of known (Some (object ms)) ≡ Ok x → IsDescriptor known (object ms) x
+-- what is read as a descriptor is one, and no earlier one gives its digest another size
+pub descriptor-ok : (known : List Known) → IsSettled known → (ms : Members) (x : Descriptor) → descriptor_of known (Some (object ms)) ≡ Ok x → IsDescriptor (object ms) x × (Differs known x.digest x.size → ⊥)
 descriptor-ok known settled ms x h =
     let d : Data = object ms in
     let m = map_ok made _ x h in
@@ -161,13 +161,15 @@ descriptor-ok known settled ms x h =
     let agree = agreeing_ok known (digest_checked (get (codes "digest") d)) (whole_of (get (codes "size") d)) p.1.1.1.0 (under_ok _ _ p.1.1.1.0 b4.0) in
     let size = whole_ok (get (codes "size") d) p.1.1.1.0 agree.0 in
     let urls = texts_ok (get (codes "urls") d) p.1.1.1.1 (under_ok _ _ p.1.1.1.1 b4.1) in
-    rw (← m.2) record {
-      media = media;
-      digest = digest.0;
-      bytes = digest.1;
-      size = size.0;
-      whole = size.1;
-      one_size = λ d. agrees-settles known p.1.0 p.1.1.1.0 (agree.1 p.1.0 read) (settled.settled p.1.0 p.1.1.1.0 d);
-      urls = urls;
-      annotations = annotations;
-    }
+    rw (← m.2) (
+      record {
+        media = media;
+        digest = digest.0;
+        bytes = digest.1;
+        size = size.0;
+        whole = size.1;
+        urls = urls;
+        annotations = annotations;
+      },
+      λ d. agrees-settles known p.1.0 p.1.1.1.0 (agree.1 p.1.0 read) (settled.settled p.1.0 p.1.1.1.0 d),
+    )

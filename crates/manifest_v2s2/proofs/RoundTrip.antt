@@ -31,7 +31,7 @@ use Rattle.manifest_v2s2.proofs.SizeLemmas.{differs-first, agrees-not}
 
 -- ---- texts and pairs
 
-texts-again : (us : List (List ℕ)) (i : ℕ) → items_by text_of i (items_of (map string us)) ≡ Ok us
+pub texts-again : (us : List (List ℕ)) (i : ℕ) → items_by text_of i (items_of (map string us)) ≡ Ok us
 texts-again [] i = refl
 texts-again (u ∷ us) i = rw (texts-again us (suc i)) refl
 
@@ -93,7 +93,7 @@ put_all-pairs : (qs : List Pair) → AreInOrder qs → put_all qs no_members ≡
 unfolding front
 put_all-pairs qs o = put_all-in_order [] qs (stand_after_none qs) o
 
-pairs-again : (ps : List Pair) → members_by annotation_of (pairs_data ps) ≡ Ok ps
+pub pairs-again : (ps : List Pair) → members_by annotation_of (pairs_data ps) ≡ Ok ps
 pairs-again [] = refl
 pairs-again (p ∷ ps) = rw (pairs-again ps) refl
 
@@ -149,13 +149,13 @@ urls-again : (us : List (List ℕ)) → optional_list text_of (urls_part us) ≡
 urls-again [] = refl
 urls-again (u ∷ us) = texts-again (u ∷ us) 0
 
-size-again : (n : ℕ) → n < 2 ^ 63 → whole_of (Some (number (unsigned n))) ≡ Ok n
+pub size-again : (n : ℕ) → n < 2 ^ 63 → whole_of (Some (number (unsigned n))) ≡ Ok n
 size-again n h = grind (arith, nat_tests)
 
-digest-again : (d : List ℕ) → IsDigest d → digest_checked (Some (string (digest_text d))) ≡ Ok d
+pub digest-again : (d : List ℕ) → IsDigest d → digest_checked (Some (string (digest_text d))) ≡ Ok d
 digest-again d h = rw (digest_of-digest_text d h) refl
 
-agrees-if : (known : List Known) (d : List ℕ) (n : ℕ) → (Differs known d n → ⊥) → agrees (first_size known d) n ≡ true
+pub agrees-if : (known : List Known) (d : List ℕ) (n : ℕ) → (Differs known d n → ⊥) → agrees (first_size known d) n ≡ true
 agrees-if known d n h = true_from_ne_false (agrees (first_size known d) n) (λ e. h (differs-first known d n (agrees-not known d n e)))
 
 descriptor-again : (known : List Known) (x : Descriptor) → HasDigest x → IsWritableDescriptor x → (Differs known x.digest x.size → ⊥) → descriptor_of known (Some (descriptor_data x)) ≡ Ok x

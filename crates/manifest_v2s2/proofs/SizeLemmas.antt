@@ -1,5 +1,6 @@
 -- The first size of a digest, against the sizes of all descriptors of it.
-use Rattle.std.proofs.Common.{◌≡◌, ◌≢◌, ◌⊎◌, inl, inr, ℕ, cond, Bool, true, false, List, [], ◌∷◌, ◌++◌, Option, Some, None, refl, sym, ap, ◌∙◌}
+use Rattle.std.proofs.Common.{◌≡◌, ◌≢◌, ◌⊎◌, inl, inr, ℕ, cond, Bool, true, false, List, [], ◌∷◌, ◌++◌, Option, Some, None, Result, Ok, Err, refl, sym, ap, ◌∙◌}
+use Rattle.std.specs.Prelude.{OnErr}
 use Rattle.std.specs.Option.{is_some}
 use Rattle.std.specs.Str.{bytes_eq}
 use Rattle.std.specs.Ordering.{nat_cmp}
@@ -64,7 +65,7 @@ first_size-last (l ∷ known) k digest h =
       | inr e ↦ rw e (first_size-last known k digest (sym (rw e refl) ∙ h))
     ]
 
-differs-append : (known : List Known) (k : Known) (digest : List ℕ) (size : ℕ) → Differs (known ++ k ∷ []) digest size → Differs known digest size ⊎ ((k.digest ≡ digest) × (k.size ≢ size))
+pub differs-append : (known : List Known) (k : Known) (digest : List ℕ) (size : ℕ) → Differs (known ++ k ∷ []) digest size → Differs known digest size ⊎ ((k.digest ≡ digest) × (k.size ≢ size))
 differs-append [] k digest size (inl here) = inr here
 differs-append [] k digest size (inr none) = absurd none
 differs-append (l ∷ known) k digest size (inl here) = inl (inl here)
@@ -153,3 +154,8 @@ sizes-added sizes next known k are h updates =
           updates.0 digest ∙ ap (λ b. cond b (Some k.size) (get (slice_cmp nat_cmp) sizes.first digest)) (is_eq-slice_cmp k.digest digest)
           ∙ ap (cond (bytes_eq k.digest digest) (Some k.size)) (are.same digest) ∙ known_newly known k digest absent;
     }
+
+-- a map of the same entries has the same first sizes, whatever was answered
+pub sizes-same : {A B : Type 0} (r : Result A B) (sizes next : Sizes) (known : List Known) → AreFirstSizes sizes known → next.first.entries ≡ sizes.first.entries → OnErr r (AreFirstSizes next known)
+sizes-same (Ok x) sizes next known are e = tt
+sizes-same (Err y) sizes next known are e = record { same = λ digest. rw e (are.same digest) }

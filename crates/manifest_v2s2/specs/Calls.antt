@@ -25,6 +25,12 @@ NamesFirstBad (Ok x) B = (p : Path) → B p → ⊥
 NamesFirstBad (Err (Member text)) B = (p : Path) × IsFirst B p × (text ≡ pointer p)
 NamesFirstBad (Err Memory) B = Unit {0}
 
+-- the one value that is said, or a member where none is, unless memory ran out
+abbrev pub TellsOnly : {A : Type 0} → (A → Type 0) → Result A ManifestFault → Type 0
+TellsOnly {A} Says (Ok x) = Says x × ((y : A) → Says y → y ≡ x)
+TellsOnly {A} Says (Err (Member text)) = (y : A) → Says y → ⊥
+TellsOnly Says (Err Memory) = Unit {0}
+
 -- its digest is one
 abbrev pub HasDigest : Descriptor → Type 0
 HasDigest x = IsDigest x.digest

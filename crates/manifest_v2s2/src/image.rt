@@ -1,13 +1,16 @@
-ghost use Rattle.std.specs.Prelude.{◌≡◌, ℕ, [], ◌++◌, List, Option, Some, option_map, ⊤, Result};
+ghost use Rattle.std.specs.Prelude.{◌≡◌, ℕ, [], ◌++◌, List, Option, Some, option_map, ⊤, Result, false};
 ghost use Rattle.serde_json.specs.Data.{Data};
 ghost use Rattle.serde_json.specs.View.{view, items_view};
 ghost use Rattle.json_tree.specs.Checked.{Checked, Gives, checked_map};
+ghost use Rattle.json_tree.specs.Parsed.{tree_of};
 ghost use Rattle.json_tree.specs.Tree.{tree};
 ghost use Rattle.manifest_v2s2.specs.declared.kind.Kind.TheVariants.{V2s2};
 ghost use Rattle.manifest_v2s2.specs.declared.sizes.Known.{Known};
 ghost use Rattle.manifest_v2s2.specs.Bad.{BadImage};
-ghost use Rattle.manifest_v2s2.specs.Calls.{Reads, NamesFirstBad};
+ghost use Rattle.manifest_v2s2.specs.Calls.{Reads, NamesFirstBad, TellsOnly};
+ghost use Rattle.manifest_v2s2.specs.IsImage.{SaysImage};
 ghost use Rattle.manifest_v2s2.specs.Known.{AreFirstSizes};
+ghost use Rattle.manifest_v2s2.specs.Media.{is_list};
 ghost use Rattle.manifest_v2s2.specs.Descriptor.{descriptor_of, known_of};
 ghost use Rattle.manifest_v2s2.specs.Image.{absent, media_checked, version_checked, layers_by, layers_of, Members, made, members_of, image_of};
 
@@ -16,7 +19,7 @@ use crate::fault::{ManifestFault, told};
 use crate::kind::Kind;
 use crate::reading::read_descriptor;
 use crate::sizes::Sizes;
-use json_tree::{Fault, Path, Step, at, both, push, read_tree, under};
+use json_tree::{Fault, Parsed, Path, Step, at, both, push, under};
 use serde_json::Value;
 use skopeo_outside::Many;
 use std::alloc::Global;
@@ -142,20 +145,44 @@ fn image_in(alloc: Global, kind: Kind, value: Option<&Value>) -> Result<Image, F
     }
 }
 
+fn image_in_parsed(alloc: Global, parsed: &Parsed, kind: Kind) -> Result<Image, ManifestFault>
+    ensures { Reads result (image_of kind (tree_of parsed.now)) }
+{
+    told(alloc, image_in(alloc, kind, parsed.root()))
+}
+
 fn image_of_bytes(alloc: Global, bytes: &[u8], kind: Kind) -> Result<Image, ManifestFault>
     ensures { Reads result (image_of kind (tree bytes.now)) }
 {
-    let value = read_tree(alloc, bytes)?;
-    told(alloc, image_in(alloc, kind, value.as_ref()))
+    let parsed = Parsed::of(alloc, bytes)?;
+    image_in_parsed(alloc, &parsed, kind)
 }
 
-/// The image of that kind that the bytes are.
+/// The image of that kind, no list's, that bytes are which were parsed before.
 ///
 /// A fault is the pointer (RFC 6901) of the first bad member: of those at the least depth the first in byte order of
 /// names and by number of places; the empty pointer where the bytes are no JSON object.
+pub fn image_of_parsed(
+    alloc: Global,
+    parsed: &Parsed,
+    kind: Kind,
+) -> Result<Image, ManifestFault>
+    requires { is_list kind ≡ false }
+    ensures exact { Reads result (image_of kind (tree_of parsed.now)) }
+    ensures first { (bytes : List ℕ) → tree_of parsed.now ≡ tree bytes
+        → NamesFirstBad result (BadImage kind (tree bytes)) }
+    // The same in the words of the format alone.
+    ensures format { TellsOnly (SaysImage kind (tree_of parsed.now)) result }
+{
+    image_in_parsed(alloc, parsed, kind)
+}
+
+/// The image of that kind, no list's, that the bytes are; faults are those of `image_of_parsed`.
 pub fn read_image_as(alloc: Global, bytes: &[u8], kind: Kind) -> Result<Image, ManifestFault>
+    requires { is_list kind ≡ false }
     ensures exact { Reads result (image_of kind (tree bytes.now)) }
     ensures first { NamesFirstBad result (BadImage kind (tree bytes.now)) }
+    ensures format { TellsOnly (SaysImage kind (tree bytes.now)) result }
 {
     image_of_bytes(alloc, bytes, kind)
 }
@@ -164,6 +191,7 @@ pub fn read_image_as(alloc: Global, bytes: &[u8], kind: Kind) -> Result<Image, M
 pub fn read_image(alloc: Global, bytes: &[u8]) -> Result<Image, ManifestFault>
     ensures exact { Reads result (image_of V2s2 (tree bytes.now)) }
     ensures first { NamesFirstBad result (BadImage V2s2 (tree bytes.now)) }
+    ensures format { TellsOnly (SaysImage V2s2 (tree bytes.now)) result }
 {
     read_image_as(alloc, bytes, Kind::V2s2)
 }

@@ -13,7 +13,7 @@ mod write;
 
 pub use descriptor::Descriptor;
 pub use fault::{ManifestFault, told};
-pub use image::{Image, read_absent, read_image, read_image_as, read_version};
+pub use image::{Image, image_of_parsed, read_absent, read_image, read_image_as, read_version};
 pub use kind::Kind;
 pub use list::{List, ListEntry, Platform};
 pub use reading::read_descriptor;

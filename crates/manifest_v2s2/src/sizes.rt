@@ -1,4 +1,4 @@
-ghost use Rattle.std.specs.Prelude.{◌≡◌, ◌++◌, ◌∷◌, [], ℕ, List, Option, Some, option_map, option_to_list, OnOk};
+ghost use Rattle.std.specs.Prelude.{◌≡◌, ◌++◌, ◌∷◌, [], ℕ, List, Option, Some, option_map, option_to_list, OnOk, OnErr};
 ghost use Rattle.serde_json.specs.Data.{Data};
 ghost use Rattle.serde_json.specs.View.{view};
 ghost use Rattle.json_tree.specs.Leaf.{whole_of};
@@ -83,7 +83,10 @@ impl Sizes {
     }
 
     fn add(&mut self, one: Known) -> Result<(), Memory>
-        ensures { (known : List Known) → AreFirstSizes self.old known → OnOk result (AreFirstSizes self.new (known ++ one ∷ [])) }
+        ensures learnt { (known : List Known) → AreFirstSizes self.old known
+            → OnOk result (AreFirstSizes self.new (known ++ one ∷ [])) }
+        ensures kept { (known : List Known) → AreFirstSizes self.old known
+            → OnErr result (AreFirstSizes self.new known) }
     {
         if self.first.contains_key(&one.digest) {
             return Ok(());
@@ -92,10 +95,13 @@ impl Sizes {
         Ok(())
     }
 
-    /// Adds a descriptor's digest and size, where it has both, behind those that were added before.
+    /// Adds a descriptor's digest and size, where it has both, behind those that were added before. Where memory is
+    /// wanting the sizes are those of before.
     pub fn learn(&mut self, value: Option<&Value>) -> Result<(), Memory>
-        ensures { (known : List Known) → AreFirstSizes self.old known
+        ensures learnt { (known : List Known) → AreFirstSizes self.old known
             → OnOk result (AreFirstSizes self.new (known ++ known_of (option_map (λ v. view v.now) value.entry))) }
+        ensures kept { (known : List Known) → AreFirstSizes self.old known
+            → OnErr result (AreFirstSizes self.new known) }
     {
         match known_in(value) {
             Some(one) => self.add(one),

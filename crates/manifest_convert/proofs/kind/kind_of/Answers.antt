@@ -1,5 +1,8 @@
-use Rattle.manifest_convert.proofs.KindLemmas.{first-kind}
+use Rattle.manifest_convert.proofs.KindLemmas.{first-kind, tells-kind}
 use Rattle.manifest_convert.proofs.kind.kind_of.Goals as goal
 
 pub returns-clause-first : goal.returns-clause-first
 returns-clause-first c = first-kind _ _ _ c.kind_of_bytes.ensures
+
+pub returns-clause-rows : goal.returns-clause-rows
+returns-clause-rows c = tells-kind _ _ _ c.kind_of_bytes.ensures

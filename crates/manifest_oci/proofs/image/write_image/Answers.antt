@@ -1,4 +1,4 @@
-use Rattle.manifest_oci.proofs.ImageLemmas.{again-oci, said-oci}
+use Rattle.manifest_oci.proofs.WrittenLemmas.{again-oci, said-oci}
 use Rattle.manifest_oci.proofs.image.write_image.Goals as goal
 
 pub returns-clause-again : goal.returns-clause-again

@@ -7,7 +7,7 @@ loop-place-init c = λ known are. read_nothing _ _ _ _ are c.new.ensures
 pub loop-place-preserved : goal.loop-place-preserved
 loop-place-preserved c = λ first are.
     read_one _ _ _ _ _ c.index-items-place.result _ _ (c.loop-place.invariant first are) c.loop-place-test.true c.index-items-place.is
-    (λ known h. c.in_ok-learn.ensures known h)
+    (λ known h. c.in_ok-learn.ensures.learnt known h)
     (λ known x h gives. c.push-all.ensures x _ gives (c.under.ensures _ (c.read_descriptor-layer.ensures known h)))
 
 pub returns : goal.returns
