@@ -1,4 +1,4 @@
-//! The program: real files and streams behind the traits, sixteen lanes, and the command's status as its own.
+//! The program: real files, connections and streams behind the traits, sixteen lanes, and the command's status as its own.
 #![tactic(auto)]
 
 ghost use Rattle.std.specs.Prelude.{◌≡◌, ◌≤◌, IfOk};
@@ -11,31 +11,33 @@ mod stream;
 use begin::{Unbegun, begin, refuse};
 use notes::explain;
 use real_files::{Disk, Progress, RealFiles};
+use real_wires::RealWire;
 use skopeo_app::skopeo;
 use skopeo_outside::{Idle, Lane};
 use skopeo_words::{Command, read_words};
 use std::alloc::{AllocError, Global};
 use std::io::IsTerminal;
+use std::net::Net;
 use std::process::ExitCode;
 use stream::Stream;
 
 /// The lanes of a copy.
 const LANES: u32 = 16;
 
-/// Sixteen lanes over real files, each numbered by its place.
+/// Sixteen lanes over real connections and files, each numbered by its place.
 #[tactic(auto, using(skopeo_app::proofs::NumberLemmas::one_more, skopeo_app::proofs::NumberLemmas::are_lanes))]
-fn make_lanes<'r, R: Disk>(
+fn make_lanes<'r, R: Disk + Net>(
     alloc: Global,
     rt: &'r R,
     progress: &'r Progress<'r, R>,
-) -> Result<Vec<Lane<Idle, RealFiles<'r, R>>>, AllocError>
+) -> Result<Vec<Lane<RealWire<'r, R>, RealFiles<'r, R>>>, AllocError>
     ensures { IfOk result (λ lanes. AreLanes lanes.items) }
 {
     let mut lanes = Vec::new(alloc);
     for number in 0..LANES {
         lanes.push(Lane {
-            from: Idle::new(),
-            to: Idle::new(),
+            from: RealWire::new(rt),
+            to: RealWire::new(rt),
             files: RealFiles::new(rt, progress),
             number,
         })?;

@@ -1,0 +1,6 @@
+-- How the count of faults of real connections goes.
+use Rattle.std.specs.Prelude.{◌+◌, ◌-◌, ◌^◌, ℕ, min}
+
+-- the count after one more fault, up to its last value
+abbrev pub one_more : ℕ → ℕ
+one_more count = min (count + 1) (2 ^ 64 - 1)
