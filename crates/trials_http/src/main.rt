@@ -16,7 +16,7 @@ use skopeo_outside::{Memory, Text};
 use std::alloc::Global;
 use std::io;
 
-/// What the call of a row answers. A call that is neither one of these nor a step is the method of a request.
+/// What the call of a row answers. A call that is none of these is a step, or the method of a request.
 fn answer(alloc: Global, call: &str, input: &str) -> Result<Text, Memory> {
     match call {
         "head" => messages::head(alloc, input),
@@ -33,10 +33,7 @@ fn answer(alloc: Global, call: &str, input: &str) -> Result<Text, Memory> {
         "registry" => registry::registry(alloc, input),
         "connection" => labs::connection(alloc, input),
         "task" => labs::task(alloc, input),
-        call => match steps::answer(alloc, call, input)? {
-            Some(answer) => Ok(answer),
-            None => exchanges::exchanged(alloc, call, input),
-        },
+        call => steps::answer(alloc, call, input),
     }
 }
 
