@@ -1,5 +1,5 @@
 -- The kind of a tree is found exactly where it has one, or its first bad member named.
-use Rattle.std.proofs.Common.{◌≡◌, ℕ, codes, cond, not, Bool, true, false, List, Option, Some, None, Result, Ok, Err, refl, sym, ap, ◌∙◌}
+use Rattle.std.proofs.Common.{◌≡◌, ℕ, codes, cond, not, Bool, true, false, List, [], Option, Some, None, Result, Ok, Err, refl, sym, ap, ◌∙◌}
 use Rattle.std.specs.Prelude.{⊤}
 use Rattle.serde_json.specs.Data.{Data, null, boolean, number, string, array, object, Members}
 use Rattle.serde_json.specs.Find.{get}
@@ -17,8 +17,8 @@ use Rattle.manifest_v2s2.specs.declared.kind.Kind.{Kind}
 use Rattle.manifest_v2s2.specs.declared.fault.ManifestFault.{ManifestFault}
 use Rattle.manifest_v2s2.specs.declared.fault.ManifestFault.TheVariants.{Member, Memory}
 use Rattle.manifest_v2s2.proofs.BadLemmas.{names-absent, names-version}
-use Rattle.manifest_v2s2.proofs.Relation.{under_ok, map_ok}
-use Rattle.manifest_v2s2.proofs.IsImageLemmas.{absent-said, version-said, both-ok}
+use Rattle.manifest_v2s2.proofs.Relation.{both_ok, under_ok, map_ok}
+use Rattle.manifest_v2s2.proofs.IsImageLemmas.{absent-said, version-said}
 use Rattle.manifest_convert.specs.Kinds as kinds
 use Rattle.manifest_convert.specs.Kinds.{kind_given, absent_where, is_image, kind_in, kind_checked, kind_of}
 use Rattle.manifest_convert.specs.HasKind.{IsGiven, IsOfKind, HasKind}
@@ -42,16 +42,16 @@ checked-said : (content : List ℕ) (d : Data) (kind : Kind) → kind_checked (k
 checked-said content d kind h =
     let m = map_ok kind_in _ kind h in
     let p : kinds.Members = m.0 in
-    let b1 = both-ok _ _ _ p m.1 in
-    let b2 = both-ok _ _ _ p.1 b1.1 in
-    let b3 = both-ok _ _ _ p.1.1 b2.1 in
-    let b4 = both-ok _ _ _ p.1.1.1 b3.1 in
-    let is : kind_given content d ≡ Some kind = given-some (kind_given content d) kind (b4.0 ∙ ap (λ k. Ok k) m.2) in
-    let config : absent_where is_list (Some kind) (get (codes "config") d) ≡ Ok p.0 = sym (ap (λ g. absent_where is_list g (get (codes "config") d)) is) ∙ b1.0 in
-    let layers : absent_where is_list (Some kind) (get (codes "layers") d) ≡ Ok p.1.0 = sym (ap (λ g. absent_where is_list g (get (codes "layers") d)) is) ∙ b2.0 in
-    let manifests : absent_where is_image (Some kind) (get (codes "manifests") d) ≡ Ok p.1.1.0 = sym (ap (λ g. absent_where is_image g (get (codes "manifests") d)) is) ∙ b3.0 in
+    let b1 = both_ok _ _ p.0 p.1 m.1 in
+    let b2 = both_ok _ _ p.1.0 p.1.1 b1.1 in
+    let b3 = both_ok _ _ p.1.1.0 p.1.1.1 b2.1 in
+    let b4 = both_ok _ _ p.1.1.1.0 p.1.1.1.1 b3.1 in
+    let is : kind_given content d ≡ Some kind = given-some (kind_given content d) kind (under_ok _ _ p.1.1.1.0 b4.0 ∙ ap (λ k. Ok k) m.2) in
+    let config : absent_where is_list (Some kind) (get (codes "config") d) ≡ Ok p.0 = sym (ap (λ g. absent_where is_list g (get (codes "config") d)) is) ∙ under_ok _ _ p.0 b1.0 in
+    let layers : absent_where is_list (Some kind) (get (codes "layers") d) ≡ Ok p.1.0 = sym (ap (λ g. absent_where is_list g (get (codes "layers") d)) is) ∙ under_ok _ _ p.1.0 b2.0 in
+    let manifests : absent_where is_image (Some kind) (get (codes "manifests") d) ≡ Ok p.1.1.0 = sym (ap (λ g. absent_where is_image g (get (codes "manifests") d)) is) ∙ under_ok _ _ p.1.1.0 b3.0 in
     record {
-      version = version-said (get (codes "schemaVersion") d) p.1.1.1.1 (under_ok _ _ _ b4.1);
+      version = version-said (get (codes "schemaVersion") d) p.1.1.1.1 (under_ok _ _ p.1.1.1.1 b4.1);
       given = given-said content d kind is;
       no_list = λ t. where-said is_image kind (get (codes "manifests") d) p.1.1.0 manifests (ap not t);
       no_config = λ t. where-said is_list kind (get (codes "config") d) p.0 config t;
