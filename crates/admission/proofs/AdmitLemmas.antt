@@ -18,6 +18,7 @@ use Rattle.transports.specs.declared.refusal.Refusal.TheVariants as refusal
 use Rattle.transports.specs.Courses.{lane_course}
 use Rattle.transports.specs.Refusals.{is_free}
 use Rattle.admission.specs.Admission.{Admission, IsSound, judged_by, where_judged, admitted_of}
+use Rattle.admission.proofs.CountLemmas.{chosen_counts}
 use Rattle.admission.proofs.GateLemmas.{judged_holds}
 use Rattle.admission.proofs.JobLemmas.{are_jobs, few_jobs}
 
@@ -47,6 +48,8 @@ pub is_sound : (policy : PolicyLists) (place : Place) (manifest : List ℕ) (kin
 unfolding Says
 is_sound policy place manifest kind image signatures jobs done said same is few = (
   record {
+    list = (chosen policy place).list;
+    counts = chosen_counts policy place;
     gate = judged_holds (record { policy = policy; place = place; manifest = manifest; kind = kind; image = image; jobs = jobs; signatures = signatures }) (chosen policy place).scope 1 (chosen policy place).list done said;
     is_image = is;
     jobs_are = subst (AreJobsOf (descriptors image)) (sym same) (AreJobsOf-blobs image);

@@ -1,3 +1,4 @@
 pub mod GateLemmas
 pub mod JobLemmas
+pub mod CountLemmas
 pub mod AdmitLemmas

@@ -14,6 +14,7 @@ use Rattle.policy_file.specs.PolicyLists.{PolicyLists}
 use Rattle.policy_file.specs.declared.requirement.Requirement.{Requirement}
 use Rattle.policy_file.specs.declared.requirement.Requirement.TheVariants.{Accept, Reject, SignedBy, Sigstore}
 use Rattle.policy_scope.specs.Chosen.{Choice, chosen}
+use Rattle.admission.specs.Counts.{ListCounts}
 use Rattle.transports.specs.declared.refusal.Part.TheVariants as part
 use Rattle.transports.specs.declared.refusal.Refusal.{Refusal}
 use Rattle.transports.specs.declared.refusal.Refusal.TheVariants.{NotBuilt, Rejected}
@@ -39,7 +40,9 @@ Holds image Sigstore = ⊥
 -- the fact: every requirement of the list that the policy has for the image as it is named holds; the manifest says this
 -- image, by the format; and its jobs are its blobs, each one job
 pub record IsAdmitted (image : Admission) : Type 0 where
-  pub gate : All (Holds image) (chosen image.policy image.place).list
+  pub list : List Requirement
+  pub counts : ListCounts image.policy image.place list
+  pub gate : All (Holds image) list
   pub is_image : SaysImage image.kind (tree image.manifest) image.image
   pub jobs_are : AreJobsOf (descriptors image.image) image.jobs
 

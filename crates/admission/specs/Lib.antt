@@ -1,3 +1,4 @@
+pub mod Counts
 pub mod Admission
 pub mod Parts
 pub mod Walk

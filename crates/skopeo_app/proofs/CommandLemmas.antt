@@ -24,7 +24,10 @@ use Rattle.skopeo_app.specs.Headline.{Headline}
 use Rattle.skopeo_app.specs.Ending.{page_done, task_end, ending}
 use Rattle.skopeo_app.specs.Stops.{Leaves, StopsAt, StandsAt, CopyStops}
 use Rattle.skopeo_app.specs.Answer.{IsOfWords, IsAnswer, CommandEnds}
-use Rattle.skopeo_app.specs.Calls.{TaskHeadline, TaskLeaves, IsCopyAnswer, IsPageAnswer, IsRun, IsUntellable, Finishes}
+use Rattle.skopeo_app.specs.Copies.{TaskHeadline, TaskLeaves, IsCopyAnswer}
+use Rattle.skopeo_app.specs.Prints.{IsPageAnswer}
+use Rattle.skopeo_app.specs.Runs.{IsRun, IsUntellable, Finishes}
+use Rattle.skopeo_app.proofs.AskedLaw.{asks_copy}
 use Rattle.skopeo_app.proofs.RunLemmas.{told, IsLate, output_late, not_ahead, prints_value, prints_refusal}
 
 -- ---- the words
@@ -126,11 +129,11 @@ page_told words home cwd text a o p (Err e) says page = record {
 headline_of : (words : List (List ℕ)) (home cwd : List ℕ) (task : CopyTask) (a b : Seen) → task_of words cwd ≡ Ok (Copy task) → TaskHeadline home cwd task a b → Headline words home cwd a b
 headline_of words home cwd task a b is h lane x y at bytes ex ey write =
     let c = h lane x y at bytes ex ey write in
-    record { task = task; policy = c.0; asked = record { is_named = is; counts = c.1 }; copied = c.2 }
+    record { task = task; policy = c.0; asked = record { asks = asks_copy words cwd task is; counts = c.1 }; copied = c.2 }
 
 leaves_of : (words : List (List ℕ)) (home cwd : List ℕ) (task : CopyTask) (a b : Seen) → task_of words cwd ≡ Ok (Copy task) → TaskLeaves home cwd task a b → Leaves words home cwd a b
 leaves_of words home cwd task a b is (inl same) = inl same
-leaves_of words home cwd task a b is (inr touched) = inr (record { task = task; policy = touched.0; asked = record { is_named = is; counts = touched.1 }; touched = touched.2 })
+leaves_of words home cwd task a b is (inr touched) = inr (record { task = task; policy = touched.0; asked = record { asks = asks_copy words cwd task is; counts = touched.1 }; touched = touched.2 })
 
 not_of_words : (words : List (List ℕ)) (cwd : List ℕ) (r : Result Done CommandRefusal) → IfErr r (λ e. is_of_words e ≡ false) → IsOfWords r words cwd
 not_of_words words cwd (Ok done) other = tt

@@ -30,7 +30,7 @@ use Rattle.skopeo_app.specs.Headline.{Counts, first_tree}
 use Rattle.skopeo_app.specs.Ending.{of_image, image_of_task}
 use Rattle.skopeo_app.specs.Stops.{AreUntouched, HasDelivered}
 use Rattle.skopeo_app.specs.Reads.{ReadsFirst}
-use Rattle.skopeo_app.specs.Calls.{CopiesImage, TaskHeadline, TaskLeaves, CopiesTask}
+use Rattle.skopeo_app.specs.Copies.{CopiesImage, TaskHeadline, TaskLeaves, CopiesTask}
 use Rattle.skopeo_app.proofs.PolicyLemmas.{quiet_untouched}
 use Rattle.skopeo_app.proofs.EarlierLemmas.{AreQuiet, write_later, headline_earlier, leaves_earlier, untouched_earlier, given_up_earlier, delivers_earlier}
 use Rattle.skopeo_app.proofs.AheadLemmas.{untouched_ahead}

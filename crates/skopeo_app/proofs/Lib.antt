@@ -1,4 +1,5 @@
 pub mod TaskLemmas
+pub mod AskedLaw
 pub mod PolicyLemmas
 pub mod CountsLemmas
 pub mod EarlierLemmas

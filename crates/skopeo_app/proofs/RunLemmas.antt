@@ -14,7 +14,8 @@ use Rattle.skopeo_app.specs.Sinks.{SinkTold}
 use Rattle.skopeo_app.specs.Refusals.{IsOfOutput, is_memory, is_output, is_of_words, is_of_copy, is_ahead}
 use Rattle.skopeo_app.specs.Courses.{seen_course, CommandTold, command_course, told_same}
 use Rattle.skopeo_app.specs.Ending.{copy_done, image_of_task, on_lanes, printing, copy_end}
-use Rattle.skopeo_app.specs.Calls.{CopiesTask, IsCopyAnswer, Prints}
+use Rattle.skopeo_app.specs.Copies.{CopiesTask, IsCopyAnswer}
+use Rattle.skopeo_app.specs.Prints.{Prints}
 
 abbrev pub told : Seen → SinkTold → CommandTold
 told seen out = record { seen = seen; out = out }

@@ -10,7 +10,7 @@ use Rattle.skopeo_app.specs.declared.refusal.CommandRefusal.{CommandRefusal}
 use Rattle.skopeo_app.specs.declared.refusal.CommandRefusal.TheVariants as refusal
 use Rattle.skopeo_app.specs.declared.run.Done.{Done}
 use Rattle.skopeo_app.specs.Sinks.{SinkTold, Gained}
-use Rattle.skopeo_app.specs.Calls.{Tells, Finishes}
+use Rattle.skopeo_app.specs.Runs.{Tells, Finishes}
 use Rattle.skopeo_app.specs.Lines.{image_line, refusal_line}
 
 -- a write that did not fail has added its bytes

@@ -1,5 +1,5 @@
 -- The copy theorem: behind each manifest that was written, on any lane, stands an image that the words name, admitted by the policy that counts.
-use Rattle.std.specs.Prelude.{◌≡◌, [], ◌∷◌, List, ℕ, Option, None, Some, Ok, IfSome, slice_get}
+use Rattle.std.specs.Prelude.{◌≡◌, [], ◌∷◌, List, ℕ, Option, None, Some, IfSome, slice_get}
 use Rattle.skopeo_outside.specs.Tree.{Tree, file_at}
 use Rattle.skopeo_outside.specs.LaneTold.{LaneTold}
 use Rattle.skopeo_outside.specs.Seen.{Seen}
@@ -11,9 +11,8 @@ use Rattle.copy_engine.specs.Headline.{IsCopied}
 use Rattle.skopeo_app.specs.declared.task.CopyTask.{CopyTask}
 use Rattle.skopeo_app.specs.declared.task.PolicyChoice.{PolicyChoice}
 use Rattle.skopeo_app.specs.declared.task.PolicyChoice.TheVariants.{Anything, Named, Usual}
-use Rattle.skopeo_app.specs.declared.task.Task.TheVariants.{Copy}
-use Rattle.skopeo_app.specs.Task.{task_of}
 use Rattle.skopeo_app.specs.Policy.{usual_path}
+use Rattle.skopeo_app.specs.Asked.{AsksCopy}
 
 -- the file at a path says this policy
 pub record SaysPolicy (entry : Tree) (path : List ℕ) (policy : PolicyLists) : Type 0 where
@@ -33,9 +32,9 @@ abbrev pub first_tree : List LaneTold → Option Tree
 first_tree [] = None
 first_tree (a ∷ lanes) = a.files.tree
 
--- the words name this copy, and this policy counts for it, by the first lane's files at entry
+-- the words ask for this copy, and this policy counts for it, by the first lane's files at entry
 pub record IsAsked (words : List (List ℕ)) (home cwd : List ℕ) (old : Seen) (task : CopyTask) (policy : PolicyLists) : Type 0 where
-  pub is_named : task_of words cwd ≡ Ok (Copy task)
+  pub asks : AsksCopy words cwd task
   pub counts : Counts (first_tree old.lanes) home cwd task.policy policy
 
 -- an image that the words name was copied under the policy that counts

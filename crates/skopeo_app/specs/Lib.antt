@@ -3,6 +3,7 @@ pub mod Refusals
 pub mod Courses
 pub mod Plan
 pub mod Task
+pub mod Asked
 pub mod Numbered
 pub mod Policy
 pub mod Headline
@@ -12,4 +13,6 @@ pub mod JobLines
 pub mod Lines
 pub mod Answer
 pub mod Reads
-pub mod Calls
+pub mod Copies
+pub mod Prints
+pub mod Runs

@@ -7,7 +7,7 @@ ghost use Rattle.skopeo_app.specs.Task.{task_of, lanes_of};
 ghost use Rattle.skopeo_app.specs.Headline.{Headline};
 ghost use Rattle.skopeo_app.specs.Stops.{Leaves};
 ghost use Rattle.skopeo_app.specs.Answer.{told_by, CommandEnds};
-ghost use Rattle.skopeo_app.specs.Calls.{Tells, Finishes};
+ghost use Rattle.skopeo_app.specs.Runs.{Tells, Finishes};
 
 use crate::lines::{refusal_line, status_of};
 use crate::refusal::CommandRefusal;

@@ -5,7 +5,7 @@ ghost use Rattle.image_ref.specs.Reading.{offset};
 ghost use Rattle.skopeo_app.specs.Lines.{unbuilt_word, part_word, why_word, words_word, policy_word, reference_word, place_word, place_offset, scope_text, image_line, refusal_line, status_of_refusal};
 ghost use Rattle.skopeo_app.specs.JobLines.{json_text, what_word, cause_line};
 ghost use Rattle.skopeo_app.specs.Sinks.{sink_told};
-ghost use Rattle.skopeo_app.specs.Calls.{Prints};
+ghost use Rattle.skopeo_app.specs.Prints.{Prints};
 
 use crate::job_lines::{cause_line, json_text, what_word};
 use crate::refusal::{CommandRefusal, Unbuilt};

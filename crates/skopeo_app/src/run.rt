@@ -7,7 +7,9 @@ ghost use Rattle.skopeo_app.specs.Plan.{IsSoundPlan};
 ghost use Rattle.skopeo_app.specs.Ending.{copy_done, page_done};
 ghost use Rattle.skopeo_app.specs.Answer.{told_by};
 ghost use Rattle.skopeo_app.specs.Reads.{ReadsFirst};
-ghost use Rattle.skopeo_app.specs.Calls.{CopiesImage, CopiesTask, IsCopyAnswer, Prints, IsRun, IsPageAnswer};
+ghost use Rattle.skopeo_app.specs.Copies.{CopiesImage, CopiesTask, IsCopyAnswer};
+ghost use Rattle.skopeo_app.specs.Prints.{Prints, IsPageAnswer};
+ghost use Rattle.skopeo_app.specs.Runs.{IsRun};
 
 use crate::lines::print_lines;
 use crate::policy::read_policy_for;

@@ -1,0 +1,28 @@
+-- The copy that words ask for, apart from how they are read. `Task` has it as a function, with its refusals.
+use Rattle.std.specs.Prelude.{◌≡◌, List, ℕ, Bool, true, false}
+use Rattle.image_ref.specs.Place.{PlaceOf}
+use Rattle.skopeo_words.specs.CommandOf.{CommandOf}
+use Rattle.skopeo_words.specs.declared.command.Command.TheVariants as command
+use Rattle.skopeo_words.specs.declared.command.Common.{Common}
+use Rattle.skopeo_words.specs.declared.command.Passing.{Passing}
+use Rattle.transports.specs.Places.{IsBetweenPlaces}
+use Rattle.skopeo_app.specs.Plan.{lanes_for}
+use Rattle.skopeo_app.specs.Task.{asks_more, are_built, choice_of}
+use Rattle.skopeo_app.specs.declared.task.CopyTask.{CopyTask}
+
+-- the words are a `copy`; its operands spell the places of the task, which are built and not one folder; its options choose
+-- the policy and the lanes of the task, and ask for nothing that is not built
+pub record AsksCopy (words : List (List ℕ)) (cwd : List ℕ) (task : CopyTask) : Type 0 where
+  pub common : Common
+  pub passing : Passing
+  pub short_names : Bool
+  pub source : List ℕ
+  pub dest : List ℕ
+  pub asked : CommandOf words (command.Copy common passing task.quiet short_names source dest)
+  pub from : PlaceOf cwd source task.plan.source
+  pub to : PlaceOf cwd dest task.plan.dest
+  pub apart : IsBetweenPlaces task.plan
+  pub built : are_built task.plan ≡ true
+  pub plain : asks_more common passing short_names ≡ false
+  pub lanes : task.plan.lanes ≡ lanes_for common
+  pub policy : task.policy ≡ choice_of cwd common
