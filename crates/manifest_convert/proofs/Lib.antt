@@ -3,3 +3,4 @@ pub mod SeenLemmas
 pub mod KindLemmas
 pub mod GivenLemmas
 pub mod OrderLemmas
+pub mod OnlyJobs
