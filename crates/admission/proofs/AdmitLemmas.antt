@@ -1,5 +1,5 @@
 -- What comes of an image that was judged.
-use Rattle.std.proofs.Common.{◌≡◌, List, ℕ, Bool, true, false, ◌-◌, ◌^◌, ◌<◌, Result, Ok, Err, length, sym, ap, subst, ◌∙◌}
+use Rattle.std.proofs.Common.{◌≡◌, List, ℕ, Bool, true, false, ◌-◌, ◌^◌, ◌<◌, Result, Ok, Err, length, sym, ap, ◌∙◌}
 use Rattle.std.specs.Prelude.{⊤}
 use Rattle.skopeo_outside.specs.Steps.{Says, SaysBy}
 use Rattle.skopeo_outside.specs.declared.words.Fetched.{Fetched}
@@ -8,9 +8,8 @@ use Rattle.image_ref.specs.declared.place.Place.{Place}
 use Rattle.digest_reader.specs.declared.job.Job.{Job}
 use Rattle.manifest_v2s2.specs.declared.image.Image.{Image}
 use Rattle.manifest_v2s2.specs.declared.kind.Kind.{Kind}
-use Rattle.manifest_v2s2.specs.IsImage.{SaysImage}
-use Rattle.manifest_convert.specs.Blobs.{AreJobsOf, descriptors, blobs}
-use Rattle.manifest_convert.proofs.BlobLemmas.{AreJobsOf-blobs}
+use Rattle.manifest_v2s2.specs.Image.{image_of}
+use Rattle.manifest_convert.specs.Blobs.{descriptors, blobs}
 use Rattle.policy_file.specs.PolicyLists.{PolicyLists}
 use Rattle.policy_scope.specs.Chosen.{chosen}
 use Rattle.transports.specs.declared.refusal.Refusal.{Refusal}
@@ -43,13 +42,13 @@ unfolding Says lane_course
 memory_says wanted = λ a. tt
 
 -- and then it is sound
-pub is_sound : (policy : PolicyLists) (place : Place) (manifest : List ℕ) (kind : Kind) (image : Image) (signatures : List (List ℕ)) (jobs : List Job) (done : ⊤) → Says lane_course (judged_by (chosen policy place)) (Ok done) → jobs ≡ blobs image → SaysImage kind (tree manifest) image → length (descriptors image) < 2 ^ 32 - 16 → IsSound (record { policy = policy; place = place; manifest = manifest; kind = kind; image = image; jobs = jobs; signatures = signatures })
+pub is_sound : (policy : PolicyLists) (place : Place) (manifest : List ℕ) (kind : Kind) (image : Image) (signatures : List (List ℕ)) (jobs : List Job) (done : ⊤) → Says lane_course (judged_by (chosen policy place)) (Ok done) → jobs ≡ blobs image → image_of kind (tree manifest) ≡ Ok image → length (descriptors image) < 2 ^ 32 - 16 → IsSound (record { policy = policy; place = place; manifest = manifest; kind = kind; image = image; jobs = jobs; signatures = signatures })
 unfolding Says
 is_sound policy place manifest kind image signatures jobs done said same is few = (
   record {
     gate = judged_holds (record { policy = policy; place = place; manifest = manifest; kind = kind; image = image; jobs = jobs; signatures = signatures }) (chosen policy place).scope 1 (chosen policy place).list done said;
     is_image = is;
-    jobs_are = subst (AreJobsOf (descriptors image)) (sym same) (AreJobsOf-blobs image);
+    jobs_are = same;
   },
   record { are = are_jobs image jobs same; few = few_jobs image jobs (2 ^ 32 - 16) same few },
 )

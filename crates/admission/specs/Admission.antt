@@ -8,8 +8,8 @@ use Rattle.digest_reader.specs.declared.job.Job.{Job}
 use Rattle.copy_workers.specs.Jobs.{AreJobs}
 use Rattle.manifest_v2s2.specs.declared.image.Image.{Image}
 use Rattle.manifest_v2s2.specs.declared.kind.Kind.{Kind}
-use Rattle.manifest_v2s2.specs.IsImage.{SaysImage}
-use Rattle.manifest_convert.specs.Blobs.{AreJobsOf, blobs, descriptors}
+use Rattle.manifest_v2s2.specs.Image.{image_of}
+use Rattle.manifest_convert.specs.Blobs.{blobs}
 use Rattle.policy_file.specs.PolicyLists.{PolicyLists}
 use Rattle.policy_file.specs.declared.requirement.Requirement.{Requirement}
 use Rattle.policy_file.specs.declared.requirement.Requirement.TheVariants.{Accept, Reject, SignedBy, Sigstore}
@@ -36,12 +36,12 @@ Holds image Reject = ⊥
 Holds image (SignedBy keys identity) = ⊥
 Holds image Sigstore = ⊥
 
--- the fact: every requirement of the list that the policy has for the image as it is named holds; the manifest says this
--- image, by the format; and its jobs are its blobs, each one job
+-- the fact: every requirement of the list that the policy has for the image as it is named holds; the manifest is this
+-- image; and its jobs are its blobs
 pub record IsAdmitted (image : Admission) : Type 0 where
   pub gate : All (Holds image) (chosen image.policy image.place).list
-  pub is_image : SaysImage image.kind (tree image.manifest) image.image
-  pub jobs_are : AreJobsOf (descriptors image.image) image.jobs
+  pub is_image : image_of image.kind (tree image.manifest) ≡ Ok image.image
+  pub jobs_are : image.jobs ≡ blobs image.image
 
 -- its jobs are numbered from 1 and have different digests, and there are few enough for the workers
 pub record HasJobs (image : Admission) : Type 0 where

@@ -1,8 +1,8 @@
 // An image that the policy admits.
-ghost use Rattle.std.specs.Prelude.{◌≡◌};
+ghost use Rattle.std.specs.Prelude.{◌≡◌, Ok};
 ghost use Rattle.json_tree.specs.Tree.{tree};
 ghost use Rattle.skopeo_outside.specs.Steps.{Says};
-ghost use Rattle.manifest_v2s2.specs.IsImage.{SaysImage};
+ghost use Rattle.manifest_v2s2.specs.Image.{image_of};
 ghost use Rattle.transports.specs.Courses.{lane_course};
 ghost use Rattle.admission.specs.Admission.{admitted_of, IsAdmitted, HasJobs};
 
@@ -55,7 +55,7 @@ pub fn admit(
     image: Image,
     signatures: Many<Many<u8>>,
 ) -> Result<Admitted, Refusal>
-    requires image { SaysImage kind (tree fetched.bytes) image }
+    requires image { image_of kind (tree fetched.bytes) ≡ Ok image }
     ensures says { Says lane_course (admitted_of policy.now place.now fetched kind image signatures) result }
 {
     if let Err(e) = judge_image(alloc, policy, place) {

@@ -1,9 +1,9 @@
 // What fetched bytes are.
-ghost use Rattle.std.specs.Prelude.{◌≡◌, false, IfOk};
+ghost use Rattle.std.specs.Prelude.{◌≡◌, false, Ok, IfOk};
 ghost use Rattle.json_tree.specs.Parsed.{tree_of};
 ghost use Rattle.json_tree.specs.Tree.{tree};
 ghost use Rattle.skopeo_outside.specs.Steps.{Says};
-ghost use Rattle.manifest_v2s2.specs.IsImage.{SaysImage};
+ghost use Rattle.manifest_v2s2.specs.Image.{image_of};
 ghost use Rattle.manifest_v2s2.specs.Media.{is_list};
 ghost use Rattle.transports.specs.Courses.{lane_course};
 ghost use Rattle.admission.specs.Parts.{kind_in, image_in};
@@ -47,7 +47,7 @@ pub(crate) fn read_parts(
     requires parsed { tree_of parsed.now ≡ tree fetched.now.bytes }
     requires image { is_list kind ≡ false }
     ensures says { Says lane_course (image_in kind fetched.now) result }
-    ensures is { IfOk result (λ image. SaysImage kind (tree fetched.now.bytes) image) }
+    ensures is { IfOk result (λ image. image_of kind (tree fetched.now.bytes) ≡ Ok image) }
 {
     match image_of_parsed(alloc, parsed, kind) {
         Ok(image) => Ok(image),
