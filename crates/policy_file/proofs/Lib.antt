@@ -6,3 +6,4 @@ pub mod ReadLemmas
 pub mod RequirementLaw
 pub mod ElementLaw
 pub mod PolicyLaw
+pub mod FaultLaw

@@ -8,5 +8,7 @@ pub mod Lookup
 pub mod PolicyOf
 pub mod IsRequirement
 pub mod IsPolicy
+pub mod Rows
+pub mod FirstFault
 pub use Rattle.image_ref.specs.Calls.{Answers}
 pub use Rattle.json_tree.specs.Tree.{tree}

@@ -1,10 +1,11 @@
 // The policy of a file.
-ghost use Rattle.std.specs.Prelude.{◌≡◌, ◌↔◌, Ok, option_map};
+ghost use Rattle.std.specs.Prelude.{◌≡◌, ◌↔◌, Ok, Err, option_map};
 ghost use Rattle.serde_json.specs.Data.{object};
 ghost use Rattle.serde_json.specs.View.{view, members_view};
 ghost use Rattle.policy_file.specs.Judged.{Judges};
 ghost use Rattle.image_ref.specs.Calls.{Answers};
 ghost use Rattle.json_tree.specs.Tree.{tree};
+ghost use Rattle.policy_file.specs.FirstFault.{IsFirstPolicyFault};
 ghost use Rattle.policy_file.specs.IsPolicy.{IsPolicy};
 ghost use Rattle.policy_file.specs.PolicyLists.{PolicyLists};
 ghost use Rattle.policy_file.specs.PolicyOf.{members_by, scope_of, scopes_of, with_transports, transports_of, default_of, members_of, policy_of, policy_in};
@@ -108,6 +109,8 @@ pub fn read_policy(alloc: Global, bytes: &[u8]) -> Result<Policy, PolicyFault>
     ensures exact { Answers PolicyFault.Memory result (policy_in bytes.now) }
     ensures grammar { (lists : PolicyLists)
         → (policy_in bytes.now ≡ Ok lists) ↔ IsPolicy (tree bytes.now) lists }
+    ensures faults { (e : PolicyFault)
+        → (policy_in bytes.now ≡ Err e) ↔ IsFirstPolicyFault (tree bytes.now) e }
 {
     let tree = read_tree(alloc, bytes)?;
     match policy_in(alloc, tree.as_ref()) {

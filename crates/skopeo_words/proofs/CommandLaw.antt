@@ -1,49 +1,62 @@
 -- What words ask for, and their first fault: the reading and the relations agree.
-use Rattle.std.proofs.Common.{◌≡◌, ℕ, ◌+◌, ◌⊎◌, ◌↔◌, List, [], ◌∷◌, length, Option, Some, None, Ok, Err, refl, sym, ap, ◌∙◌, inl, inr}
+use Rattle.std.proofs.Common.{◌≡◌, ℕ, ◌+◌, ◌⊎◌, ◌↔◌, List, [], ◌∷◌, length, ◌||◌, Bool, codes, Option, Some, None, Ok, Err, refl, sym, ap, subst, ◌∙◌, inl, inr}
 use Rattle.std.specs.List.{All}
-use Rattle.skopeo_words.specs.Asked.{asked}
-use Rattle.skopeo_words.specs.CommandOf.{IsGood, IsCommand, Gives, CommandOf}
-use Rattle.skopeo_words.specs.Faults.{part_fault, bad_part, other_fault, other_option, operand_fault, missing_option}
+use Rattle.std.specs.Str.{bytes_eq}
+use Rattle.std.proofs.lemmas.Bool.{cases_Bool}
+use Rattle.skopeo_words.specs.Asked.{asks, AsksFor}
+use Rattle.skopeo_words.specs.CommandOf.{IsGood, IsNamed, AreInOrder, IsCommand, CommandOf}
+use Rattle.skopeo_words.specs.CopyOf.{CopyOf}
+use Rattle.skopeo_words.specs.Faults.{bad_part, other_option, operand_fault, missing_option}
+use Rattle.skopeo_words.specs.Fields.{HasFields, FitsPlace, Fits}
 use Rattle.skopeo_words.specs.Pairs.{pair_fault}
 use Rattle.skopeo_words.specs.FirstFault.{LacksName, IsCommandFault, HasFault, IsTableFault, FirstFaultOf}
 use Rattle.skopeo_words.specs.Found.{Placed, operands_of}
 use Rattle.skopeo_words.specs.Made.{made}
 use Rattle.skopeo_words.specs.Parts.{Part}
-use Rattle.skopeo_words.specs.Reading.{unless_fault, with_name, with_operands, by_table, or_table, command_fault, command_in, command_of}
+use Rattle.skopeo_words.specs.Reading.{asked, unless_fault, with_name, with_operands, by_table, or_table, command_fault, command_in, command_of}
 use Rattle.skopeo_words.specs.Scan.{parts_of}
 use Rattle.skopeo_words.specs.Table.{command_named}
 use Rattle.skopeo_words.specs.declared.command.Command.{Command}
+use Rattle.skopeo_words.specs.declared.command.Command.TheVariants as command
 use Rattle.skopeo_words.specs.declared.command.CommandName.{CommandName}
+use Rattle.skopeo_words.specs.declared.command.CommandName.TheVariants.{Copy, Sync, Inspect, ListTags, Delete, MakeImages}
+use Rattle.skopeo_words.specs.declared.command.Common.{Common}
+use Rattle.skopeo_words.specs.declared.command.Passing.{Passing}
 use Rattle.skopeo_words.specs.declared.fault.WordsFault.{WordsFault}
 use Rattle.skopeo_words.specs.declared.fault.WordsFault.TheVariants.{At}
 use Rattle.skopeo_words.specs.declared.fault.WordsKind.TheVariants.{MissingOperand, UnknownCommand}
+use Rattle.skopeo_words.proofs.AskedLaw.{asked_for, for_asked, asked_not, not_asked, good_not}
+use Rattle.skopeo_words.proofs.ClassLaw.{or_none, or_some, all_good, good_all, first_bad, bad_first, all_own, own_all, first_other, other_first, count_from, count_to, count_bad, bad_count, ends_from, ends_to, ends_bad, bad_ends}
+use Rattle.skopeo_words.proofs.FieldLaw.{fields_by, fields_made, fields_count, fields_ends}
+use Rattle.skopeo_words.proofs.FitLaw.{fits_by, pair_none}
+use Rattle.skopeo_words.proofs.PairLaw.{pair_row, row_pair}
 use Rattle.skopeo_words.proofs.PartsLaw.{parts_are, parts_once}
-use Rattle.skopeo_words.proofs.ClassLaw.{or_none, or_some, first_is, is_first, all_good, good_all, all_own, own_all, count_from, count_to, ends_from, ends_to}
 
 -- ---- a command that is in order
 
-ok_made : (fault : Option WordsFault) (m c : Command) → unless_fault fault m ≡ Ok c → (fault ≡ None) × (c ≡ m)
-ok_made None m c h = (refl, let same : m ≡ c = cc h in sym same)
+ok_made : (fault : Option WordsFault) (m c : Command) → unless_fault fault m ≡ Ok c → (fault ≡ None) × (m ≡ c)
+ok_made None m c h = (refl, cc h)
 ok_made (Some e) m c h = cc h
+
+made_is : (past : ℕ) (parts : List Part) (name : CommandName) (operands : List Placed) → IsNamed parts name operands → All IsGood parts → command_fault past name parts operands ≡ None → IsCommand parts (made name parts operands)
+made_is past parts name operands named good h =
+    let a = or_none (other_option name parts) _ h in
+    let b = or_none (operand_fault past name operands) _ a.1 in
+    let d = or_none (missing_option past name parts) (pair_fault name parts operands) b.1 in
+    let count = count_from past name operands b.0 in
+    record {
+      name = name;
+      operands = operands;
+      in_order = record { is_named = named; good = good; own = all_own name parts a.0 };
+      fields = fields_by name parts operands good count (ends_from past name parts d.0) d.1;
+      fits = fits_by name parts operands count d.1;
+    }
 
 ok_named : (past : ℕ) (parts : List Part) (first : Placed) (operands : List Placed) (named : Option CommandName) (c : Command) → command_named first.text ≡ named → operands_of parts ≡ first ∷ operands → All IsGood parts → with_name past parts first operands named ≡ Ok c → IsCommand parts c
 ok_named past parts first operands None c e are good h = cc h
 ok_named past parts first operands (Some name) c e are good h =
     let s = ok_made (command_fault past name parts operands) (made name parts operands) c h in
-    let a = or_none (other_option name parts) _ s.0 in
-    let b = or_none (operand_fault past name operands) _ a.1 in
-    let d = or_none (missing_option past name parts) (pair_fault name parts operands) b.1 in
-    record {
-      name = name;
-      operands = operands;
-      is_named = record { first = first; are_operands = are; named = e };
-      good = good;
-      own = all_own name parts a.0;
-      count = count_from past name operands b.0;
-      ends = ends_from past name parts d.0;
-      fits = d.1;
-      made = s.1;
-    }
+    subst (IsCommand parts) s.1 (made_is past parts name operands (record { first = first; are_operands = are; named = e }) good s.0)
 
 ok_operands : (past : ℕ) (parts : List Part) (operands : List Placed) (c : Command) → operands_of parts ≡ operands → All IsGood parts → with_operands past parts operands ≡ Ok c → IsCommand parts c
 ok_operands past parts [] c are good h = cc h
@@ -54,9 +67,9 @@ ok_table : (past : ℕ) (parts : List Part) (fault : Option WordsFault) (c : Com
 ok_table past parts (Some e) c k h = cc h
 ok_table past parts None c k h = ok_operands past parts (operands_of parts) c refl (all_good past parts k) h
 
-ok_gives : (past : ℕ) (parts : List Part) (ask : Option Command) (c : Command) → asked parts ≡ ask → or_table past parts ask ≡ Ok c → Gives parts c
-ok_gives past parts (Some d) c k h = inl (k ∙ ap Some (let same : d ≡ c = cc h in same))
-ok_gives past parts None c k h = inr (k, ok_table past parts (bad_part past parts) c refl h)
+ok_gives : (past : ℕ) (parts : List Part) (ask : Option Command) (c : Command) → asked parts ≡ ask → or_table past parts ask ≡ Ok c → AsksFor parts c ⊎ IsCommand parts c
+ok_gives past parts (Some d) c k h = inl (asked_for parts c (k ∙ ap Some (let same : d ≡ c = cc h in same)))
+ok_gives past parts None c k h = inr (ok_table past parts (bad_part past parts) c refl h)
 
 pub read_command : (words : List (List ℕ)) (c : Command) → command_of words ≡ Ok c → CommandOf words c
 unfolding command_in
@@ -67,32 +80,79 @@ read_command words c h = record {
 }
 
 table_is : (past : ℕ) (parts : List Part) (c : Command) → IsCommand parts c → by_table past parts (bad_part past parts) ≡ Ok c
-table_is past parts c i = rw (good_all past parts i.good, i.is_named.are_operands, i.is_named.named, own_all i.name parts i.own, count_to past i.name i.operands i.count, ends_to past i.name parts i.ends, i.fits, i.made) refl
+table_is past parts c i =
+    let same : c ≡ made i.name parts i.operands = fields_made i.name parts i.operands c i.fields in
+    let fits = pair_none i.name parts i.operands c i.fields (subst Fits same i.fits) in
+    let count = count_to past i.name i.operands (fields_count i.name parts i.operands c i.fields) in
+    let ends = ends_to past i.name parts (fields_ends i.name parts i.operands c i.fields) in
+    let o = i.in_order in
+    rw (good_all past parts o.good, o.is_named.are_operands, o.is_named.named, own_all i.name parts o.own, count, ends, fits) (ap Ok (sym same))
 
-gives_is : (past : ℕ) (parts : List Part) (c : Command) → Gives parts c → command_in past parts ≡ Ok c
+gives_is : (past : ℕ) (parts : List Part) (c : Command) → AsksFor parts c ⊎ IsCommand parts c → command_in past parts ≡ Ok c
 unfolding command_in
-gives_is past parts c (inl k) = rw k refl
-gives_is past parts c (inr (k, i)) = rw k (table_is past parts c i)
+gives_is past parts c (inl a) = rw (for_asked parts c a) refl
+gives_is past parts c (inr i) = rw (not_asked parts (λ d a. good_not parts d i.in_order.good a)) (table_is past parts c i)
 
 pub command_read : (words : List (List ℕ)) (c : Command) → CommandOf words c → command_of words ≡ Ok c
 command_read words c i =
     ap (command_in (length words + 1)) (parts_once i.parts 1 words i.are_parts) ∙ gives_is (length words + 1) i.parts c i.gives
 
+-- words ask for one thing at most
+pub one_command : (words : List (List ℕ)) (c d : Command) → CommandOf words c → CommandOf words d → c ≡ d
+one_command words c d first second =
+    let same : Ok c ≡ Ok d = sym (command_read words c first) ∙ command_read words d second in cc same
+
+-- ---- a copy
+
+asks_no_copy : (name : Option CommandName) (word : List ℕ) (common : Common) (passing : Passing) (quiet short_names : Bool) (source dest : List ℕ) → asks name word ≡ Some (command.Copy common passing quiet short_names source dest) → ⊥
+asks_no_copy name word common passing quiet short_names source dest h =
+    elim (cases_Bool (bytes_eq word (codes "--help") || bytes_eq word (codes "-h"))) [
+      | inl help ↦ (let e : Some (command.Help name) ≡ Some (command.Copy common passing quiet short_names source dest) = rw help at h in cc e)
+      | inr other ↦
+          elim (cases_Bool (bytes_eq word (codes "--version") || bytes_eq word (codes "-v"))) [
+            | inl version ↦ (let e : Some command.Version ≡ Some (command.Copy common passing quiet short_names source dest) = rw (other, version) at h in cc e)
+            | inr none ↦ (let e : None ≡ Some (command.Copy common passing quiet short_names source dest) = rw (other, none) at h in cc e)
+          ]
+    ]
+
+-- words that ask for a copy are a command of that name
+pub copy_of : (words : List (List ℕ)) (common : Common) (passing : Passing) (quiet short_names : Bool) (source dest : List ℕ) → CommandOf words (command.Copy common passing quiet short_names source dest) → CopyOf words common passing quiet short_names source dest
+copy_of words common passing quiet short_names source dest h = by h.gives
+  where
+    by_name : (name : CommandName) (operands : List Placed) → AreInOrder h.parts name operands → HasFields name h.parts operands (command.Copy common passing quiet short_names source dest) → FitsPlace passing dest → CopyOf words common passing quiet short_names source dest
+    by_name Copy operands order fields fits = record { parts = h.parts; are_parts = h.are_parts; operands = operands; in_order = order; fields = fields; fits = fits }
+    by_name Sync operands order fields fits = absurd fields
+    by_name Inspect operands order fields fits = absurd fields
+    by_name ListTags operands order fields fits = absurd fields
+    by_name Delete operands order fields fits = absurd fields
+    by_name MakeImages operands order fields fits = absurd fields
+    by : AsksFor h.parts (command.Copy common passing quiet short_names source dest) ⊎ IsCommand h.parts (command.Copy common passing quiet short_names source dest) → CopyOf words common passing quiet short_names source dest
+    by (inl (inl a)) = absurd (asks_no_copy None a.word common passing quiet short_names source dest a.asked)
+    by (inl (inr b)) = absurd (asks_no_copy (Some b.name) b.word common passing quiet short_names source dest b.asked)
+    by (inr i) = by_name i.name i.operands i.in_order i.fields i.fits
+
+pub of_copy : (words : List (List ℕ)) (common : Common) (passing : Passing) (quiet short_names : Bool) (source dest : List ℕ) → CopyOf words common passing quiet short_names source dest → CommandOf words (command.Copy common passing quiet short_names source dest)
+of_copy words common passing quiet short_names source dest h = record {
+  parts = h.parts;
+  are_parts = h.are_parts;
+  gives = inr (record { name = Copy; operands = h.operands; in_order = h.in_order; fields = h.fields; fits = h.fits });
+}
+
 -- ---- the first fault
 
-err_command : (past : ℕ) (name : CommandName) (parts : List Part) (operands : List Placed) (e : WordsFault) → command_fault past name parts operands ≡ Some e → IsCommandFault past name parts operands e
-err_command past name parts operands e h =
+err_command : (past : ℕ) (name : CommandName) (parts : List Part) (operands : List Placed) (e : WordsFault) → All IsGood parts → command_fault past name parts operands ≡ Some e → IsCommandFault past name parts operands e
+err_command past name parts operands e good h =
     elim (or_some (other_option name parts) _ e h) [
-      | inl a ↦ inl (first_is (other_fault name) parts e a)
+      | inl a ↦ inl (first_other name parts e a)
       | inr (a, h) ↦ inr (
         all_own name parts a,
         elim (or_some (operand_fault past name operands) _ e h) [
-          | inl b ↦ inl b
+          | inl b ↦ inl (count_bad past name operands e b)
           | inr (b, h) ↦ inr (
             count_from past name operands b,
             elim (or_some (missing_option past name parts) _ e h) [
-              | inl d ↦ inl d
-              | inr (d, h) ↦ inr (ends_from past name parts d, h)
+              | inl d ↦ inl (ends_bad past name parts e d)
+              | inr (d, h) ↦ inr (ends_from past name parts d, pair_row name parts operands e good h)
             ],
           )
         ],
@@ -100,38 +160,40 @@ err_command past name parts operands e h =
     ]
 
 command_err : (past : ℕ) (name : CommandName) (parts : List Part) (operands : List Placed) (e : WordsFault) → IsCommandFault past name parts operands e → command_fault past name parts operands ≡ Some e
-command_err past name parts operands e (inl f) = rw (is_first (other_fault name) parts e f) refl
-command_err past name parts operands e (inr (own, inl f)) = rw (own_all name parts own, f) refl
+command_err past name parts operands e (inl f) = rw (other_first name parts e f) refl
+command_err past name parts operands e (inr (own, inl f)) = rw (own_all name parts own, bad_count past name operands e f) refl
 command_err past name parts operands e (inr (own, inr (count, inl f))) =
-    rw (own_all name parts own, count_to past name operands count, f) refl
+    rw (own_all name parts own, count_to past name operands count, bad_ends past name parts e f) refl
 command_err past name parts operands e (inr (own, inr (count, inr (ends, f)))) =
-    rw (own_all name parts own, count_to past name operands count, ends_to past name parts ends, f) refl
+    rw (own_all name parts own, count_to past name operands count, ends_to past name parts ends, row_pair name parts operands e f) refl
 
 err_made : (fault : Option WordsFault) (m : Command) (e : WordsFault) → unless_fault fault m ≡ Err e → fault ≡ Some e
 err_made None m e h = cc h
 err_made (Some f) m e h = ap Some (let same : f ≡ e = cc h in same)
 
-err_named : (past : ℕ) (parts : List Part) (first : Placed) (operands : List Placed) (named : Option CommandName) (e : WordsFault) → command_named first.text ≡ named → operands_of parts ≡ first ∷ operands → with_name past parts first operands named ≡ Err e → LacksName past (operands_of parts) e ⊎ HasFault past parts e
-err_named past parts first operands None e k are h =
+err_named : (past : ℕ) (parts : List Part) (first : Placed) (operands : List Placed) (named : Option CommandName) (e : WordsFault) → command_named first.text ≡ named → operands_of parts ≡ first ∷ operands → All IsGood parts → with_name past parts first operands named ≡ Err e → LacksName past (operands_of parts) e ⊎ HasFault past parts e
+err_named past parts first operands None e k are good h =
     inl (rw are (k, let same : At first.at UnknownCommand ≡ e = cc h in sym same))
-err_named past parts first operands (Some name) e k are h =
-    inr (name, operands, record { first = first; are_operands = are; named = k }, err_command past name parts operands e (err_made _ _ e h))
+err_named past parts first operands (Some name) e k are good h =
+    inr (name, operands, record { first = first; are_operands = are; named = k }, err_command past name parts operands e good (err_made _ _ e h))
 
-err_operands : (past : ℕ) (parts : List Part) (operands : List Placed) (e : WordsFault) → operands_of parts ≡ operands → with_operands past parts operands ≡ Err e → LacksName past (operands_of parts) e ⊎ HasFault past parts e
-err_operands past parts [] e are h = inl (rw are (let same : At past MissingOperand ≡ e = cc h in sym same))
-err_operands past parts (first ∷ operands) e are h = err_named past parts first operands (command_named first.text) e refl are h
+err_operands : (past : ℕ) (parts : List Part) (operands : List Placed) (e : WordsFault) → operands_of parts ≡ operands → All IsGood parts → with_operands past parts operands ≡ Err e → LacksName past (operands_of parts) e ⊎ HasFault past parts e
+err_operands past parts [] e are good h = inl (rw are (let same : At past MissingOperand ≡ e = cc h in sym same))
+err_operands past parts (first ∷ operands) e are good h = err_named past parts first operands (command_named first.text) e refl are good h
 
 err_table : (past : ℕ) (parts : List Part) (fault : Option WordsFault) (e : WordsFault) → bad_part past parts ≡ fault → by_table past parts fault ≡ Err e → IsTableFault past parts e
-err_table past parts (Some f) e k h = inl (first_is (part_fault past) parts e (k ∙ ap Some (let same : f ≡ e = cc h in same)))
-err_table past parts None e k h = inr (all_good past parts k, err_operands past parts (operands_of parts) e refl h)
+err_table past parts (Some f) e k h = inl (first_bad past parts e (k ∙ ap Some (let same : f ≡ e = cc h in same)))
+err_table past parts None e k h =
+    let good = all_good past parts k in
+    inr (good, err_operands past parts (operands_of parts) e refl good h)
 
 record NotAsked (past : ℕ) (parts : List Part) (e : WordsFault) : Type 0 where
-  not_asked : asked parts ≡ None
+  not_asked : (c : Command) → AsksFor parts c → ⊥
   is_fault : IsTableFault past parts e
 
 err_asked : (past : ℕ) (parts : List Part) (ask : Option Command) (e : WordsFault) → asked parts ≡ ask → or_table past parts ask ≡ Err e → NotAsked past parts e
 err_asked past parts (Some d) e k h = cc h
-err_asked past parts None e k h = record { not_asked = k; is_fault = err_table past parts (bad_part past parts) e refl h }
+err_asked past parts None e k h = record { not_asked = asked_not parts k; is_fault = err_table past parts (bad_part past parts) e refl h }
 
 pub fault_first : (words : List (List ℕ)) (e : WordsFault) → command_of words ≡ Err e → FirstFaultOf words e
 unfolding command_in
@@ -144,7 +206,7 @@ lacking_is past parts [] e h = rw h refl
 lacking_is past parts (first ∷ operands) e (k, h) = rw (k, h) refl
 
 table_err : (past : ℕ) (parts : List Part) (e : WordsFault) → IsTableFault past parts e → by_table past parts (bad_part past parts) ≡ Err e
-table_err past parts e (inl f) = rw (is_first (part_fault past) parts e f) refl
+table_err past parts e (inl f) = rw (bad_first past parts e f) refl
 table_err past parts e (inr (good, inl lacks)) =
     rw (good_all past parts good) (lacking_is past parts (operands_of parts) e lacks)
 table_err past parts e (inr (good, inr (name, operands, named, f))) =
@@ -156,7 +218,7 @@ asked_err past parts e k f = rw k (table_err past parts e f)
 
 pub first_fault_read : (words : List (List ℕ)) (e : WordsFault) → FirstFaultOf words e → command_of words ≡ Err e
 first_fault_read words e f =
-    ap (command_in (length words + 1)) (parts_once f.parts 1 words f.are_parts) ∙ asked_err (length words + 1) f.parts e f.not_asked f.is_fault
+    ap (command_in (length words + 1)) (parts_once f.parts 1 words f.are_parts) ∙ asked_err (length words + 1) f.parts e (not_asked f.parts f.not_asked) f.is_fault
 
 -- ---- both ways
 

@@ -1,4 +1,10 @@
 pub mod PartsLaw
+pub mod FoundLaw
+pub mod FieldLaw
+pub mod PairLaw
+pub mod FitLaw
+pub mod AskedLaw
 pub mod ClassLaw
 pub mod CommandLaw
+pub mod HelpLaw
 pub mod SlashLemmas

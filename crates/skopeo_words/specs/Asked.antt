@@ -1,6 +1,7 @@
 -- Help and version: a word asks for them that is the only one, or that follows the command at once.
 -- Behind `--` no word does.
-use Rattle.std.specs.Prelude.{ℕ, List, [], ◌∷◌, ◌||◌, Option, Some, None, if◌then◌else◌, codes}
+use Rattle.std.specs.Prelude.{◌≡◌, ℕ, List, [], ◌∷◌, ◌++◌, ◌||◌, Option, Some, None, ◌⊎◌, if◌then◌else◌, codes}
+use Rattle.std.specs.List.{All}
 use Rattle.std.specs.Str.{bytes_eq}
 use Rattle.skopeo_words.specs.Parts.{Part, plain, given, lacking, mark, unknown}
 use Rattle.skopeo_words.specs.Table.{command_named}
@@ -16,26 +17,35 @@ asks name word =
     then Some command.Version
     else None
 
--- the part that follows the command asks for help or version
-abbrev pub asked_behind : Option CommandName → List Part → Option Command
-asked_behind (Some name) (unknown place word ∷ more) = asks (Some name) word
-asked_behind _ _ = None
+-- a part that is no operand
+abbrev pub IsNoOperand : Part → Type 0
+IsNoOperand (plain place word) = ⊥
+IsNoOperand (given place name value) = Unit {0}
+IsNoOperand (lacking name) = Unit {0}
+IsNoOperand mark = Unit {0}
+IsNoOperand (unknown place word) = Unit {0}
 
--- so does the part behind the first operand
-abbrev pub asked_within : List Part → Option Command
-asked_within [] = None
-asked_within (plain place word ∷ more) = asked_behind (command_named word) more
-asked_within (given place name value ∷ more) = asked_within more
-asked_within (lacking name ∷ more) = asked_within more
-asked_within (mark ∷ more) = asked_within more
-asked_within (unknown place word ∷ more) = asked_within more
+-- the word at once behind the first operand, a command's name, asks for this
+pub record AsksBehind (parts : List Part) (command : Command) : Type 0 where
+  pub before : List Part
+  pub place : ℕ
+  pub first : List ℕ
+  pub at : ℕ
+  pub word : List ℕ
+  pub after : List Part
+  pub joined : parts ≡ before ++ (plain place first ∷ unknown at word ∷ after)
+  pub none_before : All IsNoOperand before
+  pub name : CommandName
+  pub named : command_named first ≡ Some name
+  pub asked : asks (Some name) word ≡ Some command
 
--- help or version, where the words ask for it
-abbrev pub asked : List Part → Option Command
-asked (unknown place word ∷ []) = asks None word
-asked parts = asked_within parts
+-- the only word asks for this
+pub record AsksAlone (parts : List Part) (command : Command) : Type 0 where
+  pub at : ℕ
+  pub word : List ℕ
+  pub joined : parts ≡ unknown at word ∷ []
+  pub asked : asks None word ≡ Some command
 
--- behind a command that was found, or where none was found yet
-abbrev pub asked_from : Option CommandName → List Part → Option Command
-asked_from None parts = asked_within parts
-asked_from (Some name) parts = asked_behind (Some name) parts
+-- the parts ask for help or version
+abbrev pub AsksFor : List Part → Command → Type 0
+AsksFor parts command = AsksAlone parts command ⊎ AsksBehind parts command

@@ -3,19 +3,16 @@
 --   skopeo [options] COMMAND [options] OPERANDS
 --
 -- Of an option that is given more than once the last value counts.
-use Rattle.std.specs.Prelude.{◌≡◌, ℕ, List, ◌∷◌, length, true, Some, None, IsSome, ◌⊎◌}
+use Rattle.std.specs.Prelude.{◌≡◌, ℕ, List, ◌∷◌, true, Some, ◌⊎◌}
 use Rattle.std.specs.List.{All}
-use Rattle.skopeo_words.specs.Asked.{asked}
-use Rattle.skopeo_words.specs.Pairs.{pair_fault}
-use Rattle.skopeo_words.specs.Found.{Placed, operands_of, last_of}
-use Rattle.skopeo_words.specs.Made.{made}
+use Rattle.skopeo_words.specs.Asked.{AsksFor}
+use Rattle.skopeo_words.specs.Fields.{HasFields, Fits}
+use Rattle.skopeo_words.specs.Found.{Placed, operands_of}
 use Rattle.skopeo_words.specs.Parts.{Part, plain, given, lacking, mark, unknown, AreParts}
 use Rattle.skopeo_words.specs.Table.{kind_of, is_for, command_named}
 use Rattle.skopeo_words.specs.Values.{is_value}
 use Rattle.skopeo_words.specs.declared.command.Command.{Command}
 use Rattle.skopeo_words.specs.declared.command.CommandName.{CommandName}
-use Rattle.skopeo_words.specs.declared.command.CommandName.TheVariants.{Copy, Sync, Inspect, ListTags, Delete, MakeImages}
-use Rattle.skopeo_words.specs.declared.table.OptionName.TheVariants.{Src, Dest}
 
 -- a part that is an operand, the mark, or an option with a value that it takes
 abbrev pub IsGood : Part → Type 0
@@ -33,45 +30,28 @@ IsFor command (lacking name) = Unit {0}
 IsFor command mark = Unit {0}
 IsFor command (unknown place word) = Unit {0}
 
--- how many operands a command has
-abbrev pub wanted : CommandName → ℕ
-wanted Copy = 2
-wanted Sync = 2
-wanted Inspect = 1
-wanted ListTags = 1
-wanted Delete = 1
-wanted MakeImages = 2
-
--- `sync` is told both of its ends
-abbrev pub HasEnds : CommandName → List Part → Type 0
-HasEnds Sync parts = IsSome (last_of Src parts) × IsSome (last_of Dest parts)
-HasEnds _ parts = Unit {0}
-
 -- the first operand names a command, and these follow it
 pub record IsNamed (parts : List Part) (name : CommandName) (operands : List Placed) : Type 0 where
   pub first : Placed
   pub are_operands : operands_of parts ≡ first ∷ operands
   pub named : command_named first.text ≡ Some name
 
--- the parts are a command: its name, then its operands, among options that are all in order
-pub record IsCommand (parts : List Part) (command : Command) : Type 0 where
-  pub name : CommandName
-  pub operands : List Placed
+-- the parts are a command's name, then its operands, among options that are all in order
+pub record AreInOrder (parts : List Part) (name : CommandName) (operands : List Placed) : Type 0 where
   pub is_named : IsNamed parts name operands
   pub good : All IsGood parts
   pub own : All (IsFor name) parts
-  pub count : length operands ≡ wanted name
-  pub ends : HasEnds name parts
-  pub fits : pair_fault name parts operands ≡ None
-  pub made : command ≡ made name parts operands
 
--- the parts ask for help or version, or are a command
-abbrev pub Gives : List Part → Command → Type 0
-Gives parts command =
-    (asked parts ≡ Some command) ⊎ ((asked parts ≡ None) × IsCommand parts command)
+-- the parts are this command
+pub record IsCommand (parts : List Part) (command : Command) : Type 0 where
+  pub name : CommandName
+  pub operands : List Placed
+  pub in_order : AreInOrder parts name operands
+  pub fields : HasFields name parts operands command
+  pub fits : Fits command
 
--- the words ask for this
+-- the words ask for this: for help or version, or for a command
 pub record CommandOf (words : List (List ℕ)) (command : Command) : Type 0 where
   pub parts : List Part
   pub are_parts : AreParts parts 1 words
-  pub gives : Gives parts command
+  pub gives : AsksFor parts command ⊎ IsCommand parts command

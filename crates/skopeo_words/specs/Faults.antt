@@ -1,7 +1,8 @@
--- What is wrong with words: six classes, each over all the words. A fault of an earlier class comes
--- before every one of a later class, wherever it stands; within a class the first one counts.
+-- What is wrong with words, class by class, as the code looks for it. `FirstFault` has the rows that
+-- it is tied to.
 use Rattle.std.specs.Prelude.{ℕ, List, [], ◌∷◌, ◌&&◌, is_some, Option, Some, None, if◌then◌else◌}
-use Rattle.skopeo_words.specs.Found.{Placed, last_of}
+use Rattle.skopeo_words.specs.Found.{Placed}
+use Rattle.skopeo_words.specs.LastOf.{last_of}
 use Rattle.skopeo_words.specs.Parts.{Part, plain, given, lacking, mark, unknown}
 use Rattle.skopeo_words.specs.Table.{kind_of, is_for}
 use Rattle.skopeo_words.specs.Values.{is_value}

@@ -1,18 +1,14 @@
--- What is found in the parts of words: the operands in order, and the last value of an option.
-use Rattle.std.specs.Prelude.{ℕ, List, [], ◌∷◌, Option, Some, None, if◌then◌else◌, option_map}
+-- What is found in the parts of words: the operands in order, and the last value of an option, which
+-- is the one that counts.
+use Rattle.std.specs.Prelude.{◌≡◌, ◌≢◌, ℕ, List, [], ◌∷◌, ◌++◌, Option, Some, None, ◌⊎◌}
+use Rattle.std.specs.List.{All}
 use Rattle.skopeo_words.specs.Parts.{Part, plain, given, lacking, mark, unknown}
-use Rattle.skopeo_words.specs.Table.{same_option}
-use Rattle.skopeo_words.specs.declared.found.Placed as Code
 use Rattle.skopeo_words.specs.declared.table.OptionName.{OptionName}
 
 -- an operand or a value, with the place of its word, or of its option's word
 pub record Placed : Type 0 where
   pub at : ℕ
   pub text : List ℕ
-
--- the text that the code sees
-abbrev pub seen_placed : Code.Placed → Placed
-seen_placed p = record { at = p.at; text = p.text.now }
 
 -- the operands in order
 abbrev pub operands_of : List Part → List Placed
@@ -23,36 +19,41 @@ operands_of (lacking name ∷ more) = operands_of more
 operands_of (mark ∷ more) = operands_of more
 operands_of (unknown place word ∷ more) = operands_of more
 
--- the first that is there
-abbrev pub or_else : Option Placed → Option Placed → Option Placed
-or_else None other = other
-or_else (Some p) other = Some p
+-- the part does not give the option a value
+abbrev pub GivesNone : OptionName → Part → Type 0
+GivesNone option (plain place word) = Unit {0}
+GivesNone option (given place name value) = name ≢ option
+GivesNone option (lacking name) = Unit {0}
+GivesNone option mark = Unit {0}
+GivesNone option (unknown place word) = Unit {0}
 
--- the value that a part gives to an option
-abbrev pub value_in : OptionName → Part → Option Placed
-value_in wanted (plain place word) = None
-value_in wanted (given place name value) =
-    if same_option wanted name then Some (record { at = place; text = value }) else None
-value_in wanted (lacking name) = None
-value_in wanted mark = None
-value_in wanted (unknown place word) = None
+-- no part gives the option a value
+abbrev pub IsAbsent : OptionName → List Part → Type 0
+IsAbsent option parts = All (GivesNone option) parts
 
--- the last value of an option
-abbrev pub last_of : OptionName → List Part → Option Placed
-last_of name [] = None
-last_of name (p ∷ more) = or_else (last_of name more) (value_in name p)
+-- a part gives the option this value, and no part behind gives it one
+pub record IsLast (option : OptionName) (parts : List Part) (value : Placed) : Type 0 where
+  pub before : List Part
+  pub after : List Part
+  pub joined : parts ≡ before ++ (given value.at option value.text ∷ after)
+  pub none_behind : IsAbsent option after
 
--- the text of the last value of an option
-abbrev pub text_of : OptionName → List Part → Option (List ℕ)
-text_of name parts = option_map (λ p. p.text) (last_of name parts)
+-- how a text is read that stands for itself
+abbrev pub as_written : List ℕ → Option (List ℕ)
+as_written text = Some text
 
--- the first operand; empty where there is none
-abbrev pub first_text : List Placed → List ℕ
-first_text [] = []
-first_text (first ∷ more) = first.text
+-- the last value of the option, read so, is this
+pub record Says {A : Type 0} (read : List ℕ → Option A) (option : OptionName) (parts : List Part) (x : A)
+    : Type 0 where
+  pub value : Placed
+  pub last : IsLast option parts value
+  pub says : read value.text ≡ Some x
 
--- the second operand; empty where there are fewer
-abbrev pub second_text : List Placed → List ℕ
-second_text [] = []
-second_text (first ∷ []) = []
-second_text (first ∷ second ∷ more) = second.text
+-- the last value of the option, read so; None where it is not given
+abbrev pub IsGiven : {A : Type 0} → (List ℕ → Option A) → OptionName → List Part → Option A → Type 0
+IsGiven read option parts None = IsAbsent option parts
+IsGiven read option parts (Some x) = Says read option parts x
+
+-- the last value of the option, read so; another where it is not given
+abbrev pub IsOr : {A : Type 0} → (List ℕ → Option A) → A → OptionName → List Part → A → Type 0
+IsOr read other option parts x = Says read option parts x ⊎ (IsAbsent option parts × (x ≡ other))

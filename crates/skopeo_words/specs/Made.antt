@@ -1,7 +1,8 @@
--- The command of a name: each field from the last value of its option, texts as they are written.
+-- The command of a name, as the code makes it. `Fields` has the rows that it is tied to.
 use Rattle.std.specs.Prelude.{ℕ, List, Bool, Option, option_map, option_and_then, unwrap_or}
 use Rattle.skopeo_words.specs.Pairs.{is_on}
-use Rattle.skopeo_words.specs.Found.{Placed, last_of, text_of, first_text, second_text}
+use Rattle.skopeo_words.specs.Found.{Placed}
+use Rattle.skopeo_words.specs.LastOf.{last_of, text_of, first_text, second_text}
 use Rattle.skopeo_words.specs.Parts.{Part}
 use Rattle.skopeo_words.specs.Values.{truth_value, number_upto, format_value, end_value, without_slashes}
 use Rattle.skopeo_words.specs.declared.command.Command.{Command}

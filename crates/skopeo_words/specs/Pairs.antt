@@ -1,7 +1,9 @@
--- Class 6 of what is wrong with words: options or operands that do not go together.
+-- Class 6 of what is wrong with words, as the code looks for it. `FirstFault` has the rows that it is
+-- tied to.
 use Rattle.std.specs.Prelude.{ℕ, List, [], ◌∷◌, Bool, false, ◌&&◌, not, is_some, nat_le, take, Option, Some, None, if◌then◌else◌, codes}
 use Rattle.std.specs.Str.{bytes_eq}
-use Rattle.skopeo_words.specs.Found.{Placed, last_of, second_text}
+use Rattle.skopeo_words.specs.Found.{Placed}
+use Rattle.skopeo_words.specs.LastOf.{last_of, second_text}
 use Rattle.skopeo_words.specs.Parts.{Part}
 use Rattle.skopeo_words.specs.Values.{truth_value, number_upto}
 use Rattle.skopeo_words.specs.declared.command.CommandName.{CommandName}

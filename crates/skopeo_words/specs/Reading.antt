@@ -1,11 +1,12 @@
--- What words ask for, or their first fault: the six classes of faults in their order.
+-- What words ask for, or their first fault, as the code reads them: help and version, then the six
+-- classes of faults in their order.
 use Rattle.std.specs.Prelude.{ℕ, ◌+◌, List, [], ◌∷◌, length, Option, Some, None, Result, Ok, Err}
-use Rattle.skopeo_words.specs.Asked.{asked}
+use Rattle.skopeo_words.specs.Asked.{asks}
 use Rattle.skopeo_words.specs.Faults.{or_fault, bad_part, other_option, operand_fault, missing_option}
 use Rattle.skopeo_words.specs.Found.{Placed, operands_of}
 use Rattle.skopeo_words.specs.Made.{made}
 use Rattle.skopeo_words.specs.Pairs.{pair_fault}
-use Rattle.skopeo_words.specs.Parts.{Part}
+use Rattle.skopeo_words.specs.Parts.{Part, plain, given, lacking, mark, unknown}
 use Rattle.skopeo_words.specs.Scan.{parts_of}
 use Rattle.skopeo_words.specs.Table.{command_named}
 use Rattle.skopeo_words.specs.declared.command.Command.{Command}
@@ -13,6 +14,30 @@ use Rattle.skopeo_words.specs.declared.command.CommandName.{CommandName}
 use Rattle.skopeo_words.specs.declared.fault.WordsFault.{WordsFault}
 use Rattle.skopeo_words.specs.declared.fault.WordsFault.TheVariants.{At}
 use Rattle.skopeo_words.specs.declared.fault.WordsKind.TheVariants.{MissingOperand, UnknownCommand}
+
+-- the part that follows the command asks for help or version
+abbrev pub asked_behind : Option CommandName → List Part → Option Command
+asked_behind (Some name) (unknown place word ∷ more) = asks (Some name) word
+asked_behind _ _ = None
+
+-- so does the part behind the first operand
+abbrev pub asked_within : List Part → Option Command
+asked_within [] = None
+asked_within (plain place word ∷ more) = asked_behind (command_named word) more
+asked_within (given place name value ∷ more) = asked_within more
+asked_within (lacking name ∷ more) = asked_within more
+asked_within (mark ∷ more) = asked_within more
+asked_within (unknown place word ∷ more) = asked_within more
+
+-- help or version, where the words ask for it
+abbrev pub asked : List Part → Option Command
+asked (unknown place word ∷ []) = asks None word
+asked parts = asked_within parts
+
+-- behind a command that was found, or where none was found yet
+abbrev pub asked_from : Option CommandName → List Part → Option Command
+asked_from None parts = asked_within parts
+asked_from (Some name) parts = asked_behind (Some name) parts
 
 -- the first fault of a command, with the operands behind it: classes 3 to 6
 abbrev pub command_fault : ℕ → CommandName → List Part → List Placed → Option WordsFault

@@ -1,7 +1,8 @@
 // Help and version, where the words ask for them.
 ghost use Rattle.std.specs.Prelude.{◌≡◌, map};
 ghost use Rattle.skopeo_words.specs.Scan.{seen_part};
-ghost use Rattle.skopeo_words.specs.Asked.{asks, asked_within, asked};
+ghost use Rattle.skopeo_words.specs.Asked.{asks};
+ghost use Rattle.skopeo_words.specs.Reading.{asked_within, asked};
 
 use crate::command::{Command, CommandName};
 use crate::parts::Part;

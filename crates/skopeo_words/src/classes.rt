@@ -1,7 +1,7 @@
 // What is wrong with words, class by class.
 ghost use Rattle.std.specs.Prelude.{◌≡◌, map};
 ghost use Rattle.skopeo_words.specs.Scan.{seen_part};
-ghost use Rattle.skopeo_words.specs.Found.{seen_placed};
+ghost use Rattle.skopeo_words.specs.LastOf.{seen_placed};
 ghost use Rattle.skopeo_words.specs.Faults.{part_fault, bad_part, other_fault, other_option, not_one, not_two, operand_fault, missing_option};
 ghost use Rattle.skopeo_words.specs.Reading.{command_fault};
 

@@ -1,7 +1,8 @@
 // What is found in the parts of words.
 ghost use Rattle.std.specs.Prelude.{◌≡◌, map, option_map, IfOk};
 ghost use Rattle.skopeo_words.specs.Scan.{seen_part};
-ghost use Rattle.skopeo_words.specs.Found.{seen_placed, operands_of, value_in, last_of, text_of, first_text, second_text};
+ghost use Rattle.skopeo_words.specs.Found.{operands_of};
+ghost use Rattle.skopeo_words.specs.LastOf.{seen_placed, value_in, last_of, text_of, first_text, second_text};
 
 use crate::parts::Part;
 use crate::table::{OptionName, same_option};

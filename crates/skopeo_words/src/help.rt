@@ -1,6 +1,7 @@
 // The pages of help, and the version.
 ghost use Rattle.std.specs.Prelude.{◌≡◌};
 ghost use Rattle.skopeo_words.specs.Help.{page_of, version_line};
+ghost use Rattle.skopeo_words.specs.Page.{IsOn, NamesOptions};
 
 use crate::command::CommandName;
 
@@ -243,11 +244,10 @@ Exit status:
   4  memory was wanting
 ";
 
-/// The one place of the version's number.
+/// The version's number, as `specs/Help.antt` has it.
 const VERSION: &str = "skopeo 0.1.0\n";
 
-/// The page of a command, or the one over all: its usage, its options and the exit statuses.
-pub fn help_text(page: Option<CommandName>) -> &'static str
+fn page_text(page: Option<CommandName>) -> &'static str
     ensures { result.now ≡ page_of page }
 {
     match page {
@@ -261,9 +261,19 @@ pub fn help_text(page: Option<CommandName>) -> &'static str
     }
 }
 
+/// The page of a command, or the one over all: its usage, its options and the exit statuses. It
+/// names the options that are for the command, and no others.
+pub fn help_text(page: Option<CommandName>) -> &'static str
+    ensures page { result.now ≡ page_of page }
+    ensures usage { IsOn page result.now }
+    ensures options { NamesOptions page result.now }
+{
+    page_text(page)
+}
+
 /// The name of the tool and its version, as a line.
 pub fn version_text() -> &'static str
-    ensures { result.now ≡ version_line }
+    ensures line { result.now ≡ version_line }
 {
     VERSION
 }

@@ -1,7 +1,7 @@
 // A command, made of its parts.
 ghost use Rattle.std.specs.Prelude.{◌≡◌, map, option_map, IfOk};
 ghost use Rattle.skopeo_words.specs.Scan.{seen_part};
-ghost use Rattle.skopeo_words.specs.Found.{seen_placed, text_of};
+ghost use Rattle.skopeo_words.specs.LastOf.{seen_placed, text_of};
 ghost use Rattle.skopeo_words.specs.Values.{without_slashes};
 ghost use Rattle.skopeo_words.specs.Made.{flag_of, choice_of, lanes_of, format_of, end_in, count_of, common_of, passing_of, made};
 ghost use Rattle.skopeo_words.specs.declared.command.CommandName.TheVariants as name;

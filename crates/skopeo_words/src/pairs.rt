@@ -1,7 +1,7 @@
 // Options and operands that do not go together.
 ghost use Rattle.std.specs.Prelude.{◌≡◌, map, option_map};
 ghost use Rattle.skopeo_words.specs.Scan.{seen_part};
-ghost use Rattle.skopeo_words.specs.Found.{seen_placed};
+ghost use Rattle.skopeo_words.specs.LastOf.{seen_placed};
 ghost use Rattle.skopeo_words.specs.Pairs.{says, is_yes, is_on, place_of, later, bad_pair, needs_raw, bad_format, not_docker, bad_number, pair_fault};
 
 use crate::command::CommandName;

@@ -3,7 +3,7 @@ ghost use Rattle.std.specs.Prelude.{◌≡◌, ◌+◌, ◌<◌, ◌^◌, ◌↔
 ghost use Rattle.std.specs.String.{string_bytes};
 ghost use Rattle.image_ref.specs.Calls.{Answers};
 ghost use Rattle.skopeo_words.specs.Scan.{seen_part};
-ghost use Rattle.skopeo_words.specs.Found.{seen_placed};
+ghost use Rattle.skopeo_words.specs.LastOf.{seen_placed};
 ghost use Rattle.skopeo_words.specs.CommandOf.{CommandOf};
 ghost use Rattle.skopeo_words.specs.FirstFault.{FirstFaultOf};
 ghost use Rattle.skopeo_words.specs.Reading.{with_operands, command_in, command_of, by_table};

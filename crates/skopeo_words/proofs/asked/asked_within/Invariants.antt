@@ -1,6 +1,6 @@
 use Rattle.std.proofs.Common.{◌≡◌, map, drop}
 use Rattle.skopeo_words.specs.Scan.{seen_part}
-use Rattle.skopeo_words.specs.Asked.{asked_from, asked_within}
+use Rattle.skopeo_words.specs.Reading.{asked_from, asked_within}
 use Rattle.skopeo_words.proofs.asked.asked_within.Given as goal
 
 abbrev pub invariant-loop-part : goal.invariant-loop-part

@@ -1,6 +1,6 @@
 use Rattle.std.proofs.Common.{◌≡◌, map, drop, option_map}
 use Rattle.skopeo_words.specs.Scan.{seen_part}
-use Rattle.skopeo_words.specs.Found.{last_of, or_else, seen_placed}
+use Rattle.skopeo_words.specs.LastOf.{last_of, or_else, seen_placed}
 use Rattle.skopeo_words.proofs.found.last_of.Given as goal
 
 abbrev pub invariant-loop-part : goal.invariant-loop-part

@@ -1,6 +1,7 @@
 use Rattle.std.proofs.Common.{◌≡◌, ◌++◌, map, drop}
 use Rattle.skopeo_words.specs.Scan.{seen_part}
-use Rattle.skopeo_words.specs.Found.{operands_of, seen_placed}
+use Rattle.skopeo_words.specs.Found.{operands_of}
+use Rattle.skopeo_words.specs.LastOf.{seen_placed}
 use Rattle.skopeo_words.proofs.found.operands_of.Given as goal
 
 abbrev pub invariant-loop-part : goal.invariant-loop-part
