@@ -132,11 +132,7 @@ fn kind_in_tree(alloc: Global, value: Option<&Value>, content_type: &str) -> Res
     }
 }
 
-fn kind_in_parsed(
-    alloc: Global,
-    parsed: &Parsed,
-    content_type: &str,
-) -> Result<Kind, ManifestFault>
+fn kind_in_parsed(alloc: Global, parsed: &Parsed, content_type: &str) -> Result<Kind, ManifestFault>
     ensures { Reads result (kind_of content_type.now (tree_of parsed.now)) }
 {
     told(alloc, kind_in_tree(alloc, parsed.root(), content_type))

@@ -162,11 +162,7 @@ fn image_of_bytes(alloc: Global, bytes: &[u8], kind: Kind) -> Result<Image, Mani
 ///
 /// A fault is the pointer (RFC 6901) of the first bad member: of those at the least depth the first in byte order of
 /// names and by number of places; the empty pointer where the bytes are no JSON object.
-pub fn image_of_parsed(
-    alloc: Global,
-    parsed: &Parsed,
-    kind: Kind,
-) -> Result<Image, ManifestFault>
+pub fn image_of_parsed(alloc: Global, parsed: &Parsed, kind: Kind) -> Result<Image, ManifestFault>
     requires { is_list kind ≡ false }
     ensures exact { Reads result (image_of kind (tree_of parsed.now)) }
     ensures first { (bytes : List ℕ) → tree_of parsed.now ≡ tree bytes

@@ -126,6 +126,7 @@ copy_of words common passing quiet short_names source dest h = by h.gives
     by_name ListTags operands order fields fits = absurd fields
     by_name Delete operands order fields fits = absurd fields
     by_name MakeImages operands order fields fits = absurd fields
+
     by : AsksFor h.parts (command.Copy common passing quiet short_names source dest) ⊎ IsCommand h.parts (command.Copy common passing quiet short_names source dest) → CopyOf words common passing quiet short_names source dest
     by (inl (inl a)) = absurd (asks_no_copy None a.word common passing quiet short_names source dest a.asked)
     by (inl (inr b)) = absurd (asks_no_copy (Some b.name) b.word common passing quiet short_names source dest b.asked)

@@ -123,7 +123,7 @@ common_by parts good = record {
   arch = text_by option.OverrideArch parts;
   variant = text_by option.OverrideVariant parts;
   lanes = or_by (number_upto 16) 6 option.Lanes parts (option_and_then (number_upto 16) (text_of option.Lanes parts))
-  (given_by (number_upto 16) option.Lanes parts (kind_reads kind.Lanes option.Lanes parts refl good));
+      (given_by (number_upto 16) option.Lanes parts (kind_reads kind.Lanes option.Lanes parts refl good));
 }
 
 common_is : (parts : List Part) (c : Common) → AreCommon parts c → c ≡ common_of parts
@@ -157,7 +157,7 @@ passing_by parts good = record {
   src_tls = choice_by option.SrcTlsVerify parts refl good;
   dest_tls = choice_by option.DestTlsVerify parts refl good;
   lookaside = subst (IsGiven base_value option.Lookaside parts) (base_is (text_of option.Lookaside parts))
-  (given_by base_value option.Lookaside parts (λ value last. refl));
+      (given_by base_value option.Lookaside parts (λ value last. refl));
   verifier = text_by option.Verifier parts;
 }
 
@@ -170,7 +170,7 @@ passing_is parts p h =
     let src_tls : choice_of option.SrcTlsVerify parts ≡ p.src_tls = given_is truth_value option.SrcTlsVerify parts p.src_tls h.src_tls in
     let dest_tls : choice_of option.DestTlsVerify parts ≡ p.dest_tls = given_is truth_value option.DestTlsVerify parts p.dest_tls h.dest_tls in
     let lookaside : option_map without_slashes (text_of option.Lookaside parts) ≡ p.lookaside =
-      sym (base_is (text_of option.Lookaside parts)) ∙ given_is base_value option.Lookaside parts p.lookaside h.lookaside in
+    sym (base_is (text_of option.Lookaside parts)) ∙ given_is base_value option.Lookaside parts p.lookaside h.lookaside in
     let verifier = text_is option.Verifier parts p.verifier h.verifier in
     λ i. record {
       all = sym all i;

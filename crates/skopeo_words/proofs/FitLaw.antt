@@ -77,7 +77,7 @@ copy_fits o dest h v2s2 oci =
 fits_copy : (o : Option Placed) (dest : List ℕ) → (option_and_then format_value (option_map (λ p. p.text) o) ≡ Some V2s2 → Begins (codes "oci:") dest → ⊥) → bad_format o dest ≡ None
 fits_copy o dest h =
     let none : (says (codes "v2s2") o && bytes_eq (take 4 dest) (codes "oci:")) ≡ false = false_from_ne_true (says (codes "v2s2") o && bytes_eq (take 4 dest) (codes "oci:"))
-      (λ both. let b = and_parts (says (codes "v2s2") o) (bytes_eq (take 4 dest) (codes "oci:")) both in h (says_format o b.0) (same_text (take 4 dest) (codes "oci:") b.1)) in
+    (λ both. let b = and_parts (says (codes "v2s2") o) (bytes_eq (take 4 dest) (codes "oci:")) both in h (says_format o b.0) (same_text (take 4 dest) (codes "oci:") b.1)) in
     rw none refl
 
 sync_fits : (src dest scoped : Option Placed) → bad_pair src dest scoped ≡ None → end_said src ≡ Dir → (end_said dest ≡ Docker) × (is_on scoped ≡ false)

@@ -67,7 +67,7 @@ here name (given place other value) more none =
         none_behind = none;
       })
       | inr differ ↦ rw differ (All-cons (GivesNone name) (given place other value) more
-        (λ e. both_ways (same_option name other) differ (subst (λ n. same_option name n ≡ true) (sym e) (same_self name))) none)
+          (λ e. both_ways (same_option name other) differ (subst (λ n. same_option name n ≡ true) (sym e) (same_self name))) none)
     ]
 here name (lacking other) more none = All-cons (GivesNone name) (lacking other) more tt none
 here name mark more none = All-cons (GivesNone name) mark more tt none

@@ -100,9 +100,12 @@ copy_row parts operands e h =
       | inl both ↦
           let b = and_parts (says (codes "v2s2") (last_of option.Format parts)) (bytes_eq (take 4 (second_text operands)) (codes "oci:")) both in
           let at = place_of (last_of option.Format parts) in
-          let same : Some (At at kind.FormatForPlace) ≡ Some e = rw both at h in
-          (at, says_text option.Format parts (codes "v2s2") (last_of option.Format parts) (found option.Format parts) b.0,
-            layout_from operands (same_text (take 4 (second_text operands)) (codes "oci:") b.1), sym (some_same _ _ same))
+          let same : Some (At at kind.FormatForPlace) ≡ Some e = rw both at h in (
+            at,
+            says_text option.Format parts (codes "v2s2") (last_of option.Format parts) (found option.Format parts) b.0,
+            layout_from operands (same_text (take 4 (second_text operands)) (codes "oci:") b.1),
+            sym (some_same _ _ same),
+          )
       | inr other ↦ absurd (let none : None ≡ Some e = rw other at h in cc none)
     ]
 
