@@ -1,6 +1,6 @@
 -- The rows of a command's fields have one command, and it is the one that is made.
-use Rattle.std.proofs.Common.{◌≡◌, ℕ, List, [], ◌∷◌, map, length, Bool, true, false, Option, Some, None, refl, sym, ap, subst, ◌∙◌, arith, inl, inr}
-use Rattle.std.specs.Prelude.{is_some, IsSome, option_map, option_and_then, unwrap_or}
+use Rattle.std.proofs.Common.{◌≡◌, ℕ, List, [], ◌∷◌, length, Bool, true, false, Option, Some, None, refl, sym, ap, subst, ◌∙◌, arith, inl, inr}
+use Rattle.std.specs.Prelude.{IsSome, option_map, option_and_then, unwrap_or}
 use Rattle.std.specs.List.{All}
 use Rattle.skopeo_words.specs.CommandOf.{IsGood}
 use Rattle.skopeo_words.specs.Fields.{IsText, IsFlag, IsChoice, base_value, AreCommon, ArePassing, HaveTexts, AreNumbered, HasFields}
@@ -27,6 +27,7 @@ use Rattle.skopeo_words.specs.declared.table.Kind.TheVariants as kind
 use Rattle.skopeo_words.specs.declared.table.OptionName.{OptionName}
 use Rattle.skopeo_words.specs.declared.table.OptionName.TheVariants as option
 use Rattle.skopeo_words.proofs.FoundLaw.{IsLastOr, found, none_of, is_last, middle}
+use Rattle.skopeo_words.proofs.TableLaw.{takes_kind}
 
 -- ---- one field
 
@@ -61,7 +62,7 @@ or_by read other name parts (Some x) says = inl says
 kind_reads : (k : Kind) (name : OptionName) (parts : List Part) → kind_of name ≡ k → All IsGood parts → (value : Placed) → IsLast name parts value → is_value k value.text ≡ true
 kind_reads k name parts same good value last =
     let all = subst (All IsGood) last.joined good in
-    subst (λ x. is_value x value.text ≡ true) same (middle IsGood last.before (given value.at name value.text) last.after all)
+    subst (λ x. is_value x value.text ≡ true) same (takes_kind name value.text (middle IsGood last.before (given value.at name value.text) last.after all))
 
 -- ---- by what the option takes
 
@@ -123,7 +124,7 @@ common_by parts good = record {
   arch = text_by option.OverrideArch parts;
   variant = text_by option.OverrideVariant parts;
   lanes = or_by (number_upto 16) 6 option.Lanes parts (option_and_then (number_upto 16) (text_of option.Lanes parts))
-  (given_by (number_upto 16) option.Lanes parts (kind_reads kind.Lanes option.Lanes parts refl good));
+      (given_by (number_upto 16) option.Lanes parts (kind_reads kind.Lanes option.Lanes parts refl good));
 }
 
 common_is : (parts : List Part) (c : Common) → AreCommon parts c → c ≡ common_of parts
@@ -157,7 +158,7 @@ passing_by parts good = record {
   src_tls = choice_by option.SrcTlsVerify parts refl good;
   dest_tls = choice_by option.DestTlsVerify parts refl good;
   lookaside = subst (IsGiven base_value option.Lookaside parts) (base_is (text_of option.Lookaside parts))
-  (given_by base_value option.Lookaside parts (λ value last. refl));
+      (given_by base_value option.Lookaside parts (λ value last. refl));
   verifier = text_by option.Verifier parts;
 }
 
@@ -170,7 +171,7 @@ passing_is parts p h =
     let src_tls : choice_of option.SrcTlsVerify parts ≡ p.src_tls = given_is truth_value option.SrcTlsVerify parts p.src_tls h.src_tls in
     let dest_tls : choice_of option.DestTlsVerify parts ≡ p.dest_tls = given_is truth_value option.DestTlsVerify parts p.dest_tls h.dest_tls in
     let lookaside : option_map without_slashes (text_of option.Lookaside parts) ≡ p.lookaside =
-      sym (base_is (text_of option.Lookaside parts)) ∙ given_is base_value option.Lookaside parts p.lookaside h.lookaside in
+    sym (base_is (text_of option.Lookaside parts)) ∙ given_is base_value option.Lookaside parts p.lookaside h.lookaside in
     let verifier = text_is option.Verifier parts p.verifier h.verifier in
     λ i. record {
       all = sym all i;
