@@ -2,7 +2,7 @@
 use Rattle.std.proofs.Common.{◌≡◌, ℕ, List, [], ◌∷◌, ◌++◌, Option, Some, None, refl, sym, ap, subst, ◌∙◌, inl, inr}
 use Rattle.std.specs.List.{All}
 use Rattle.std.proofs.lemmas.List.Elements.{All-cons, All-nil, All-head, All-tail}
-use Rattle.skopeo_words.specs.Asked.{asks, IsNoOperand, AsksBehind, AsksAlone, AsksFor}
+use Rattle.skopeo_words.specs.Asked.{asks, IsNoOperand, AsksBehind, AsksFor}
 use Rattle.skopeo_words.specs.CommandOf.{IsGood}
 use Rattle.skopeo_words.specs.Parts.{Part, plain, given, lacking, mark, unknown}
 use Rattle.skopeo_words.specs.Reading.{asked_behind, asked_within, asked}

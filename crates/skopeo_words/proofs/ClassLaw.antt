@@ -2,11 +2,11 @@
 use Rattle.std.proofs.Common.{◌≡◌, ℕ, ◌<◌, List, [], ◌∷◌, ◌++◌, ◌⊎◌, length, ◌&&◌, Option, Some, None, true, false, refl, sym, ap, ◌∙◌, arith, inl, inr}
 use Rattle.std.specs.Prelude.{is_some}
 use Rattle.std.specs.List.{All}
-use Rattle.std.proofs.lemmas.Bool.{cases_Bool, and_parts, and_from, false_from_ne_true}
+use Rattle.std.proofs.lemmas.Bool.{cases_Bool, both_ways, and_parts, and_from, false_from_ne_true}
 use Rattle.std.proofs.lemmas.List.Elements.{All-cons, All-nil, All-head, All-tail}
 use Rattle.skopeo_words.specs.CommandOf.{IsGood, IsFor}
 use Rattle.skopeo_words.specs.Faults.{or_fault, first_fault, part_fault, bad_part, other_fault, other_option, not_one, not_two, operand_fault, missing_option}
-use Rattle.skopeo_words.specs.FirstFault.{IsFirst, IsPartFault, IsOtherFault, wanted, HasExtra, IsCountFault, IsThere, HasEnds}
+use Rattle.skopeo_words.specs.FirstFault.{IsFirst, IsPartFault, IsOtherFault, wanted, IsCountFault, IsThere, HasEnds}
 use Rattle.skopeo_words.specs.Found.{Placed}
 use Rattle.skopeo_words.specs.LastOf.{last_of}
 use Rattle.skopeo_words.specs.Parts.{Part, plain, given, lacking, mark, unknown}
@@ -20,6 +20,7 @@ use Rattle.skopeo_words.specs.declared.fault.WordsKind.TheVariants as kind
 use Rattle.skopeo_words.specs.declared.table.OptionName.{OptionName}
 use Rattle.skopeo_words.specs.declared.table.OptionName.TheVariants.{Src, Dest}
 use Rattle.skopeo_words.proofs.FoundLaw.{IsLastOr, found, is_last}
+use Rattle.skopeo_words.proofs.TableLaw.{takes_kind, kind_takes, for_has, has_for}
 
 pub or_none : (a b : Option WordsFault) → or_fault a b ≡ None → (a ≡ None) × (b ≡ None)
 or_none None b h = (refl, h)
@@ -91,7 +92,7 @@ part_fine : (past : ℕ) (p : Part) → part_fault past p ≡ None → IsGood p
 part_fine past (plain place word) h = tt
 part_fine past (given place name value) h =
     elim (cases_Bool (is_value (kind_of name) value)) [
-      | inl good ↦ good
+      | inl good ↦ kind_takes name value good
       | inr bad ↦ cc (rw bad at h)
     ]
 part_fine past (lacking name) h = cc h
@@ -100,7 +101,7 @@ part_fine past (unknown place word) h = cc h
 
 part_passes : (past : ℕ) (p : Part) → IsGood p → part_fault past p ≡ None
 part_passes past (plain place word) g = refl
-part_passes past (given place name value) g = rw g refl
+part_passes past (given place name value) g = rw (takes_kind name value g) refl
 part_passes past (lacking name) g = absurd g
 part_passes past mark g = refl
 part_passes past (unknown place word) g = absurd g
@@ -110,7 +111,7 @@ part_bad past (plain place word) e h = cc h
 part_bad past (given place name value) e h =
     elim (cases_Bool (is_value (kind_of name) value)) [
       | inl good ↦ absurd (let none : None ≡ Some e = rw good at h in cc none)
-      | inr bad ↦ (bad, same_fault (At place kind.BadValue) e (rw bad at h))
+      | inr bad ↦ (λ t. both_ways (is_value (kind_of name) value) bad (takes_kind name value t), same_fault (At place kind.BadValue) e (rw bad at h))
     ]
 part_bad past (lacking name) e h = same_fault (At past kind.MissingValue) e h
 part_bad past mark e h = cc h
@@ -118,7 +119,8 @@ part_bad past (unknown place word) e h = same_fault (At place kind.UnknownOption
 
 part_refuses : (past : ℕ) (p : Part) (e : WordsFault) → IsPartFault past p e → part_fault past p ≡ Some e
 part_refuses past (plain place word) e h = absurd h
-part_refuses past (given place name value) e (bad, same) = rw bad (ap Some (sym same))
+part_refuses past (given place name value) e (bad, same) =
+    rw (false_from_ne_true (is_value (kind_of name) value) (λ good. bad (kind_takes name value good))) (ap Some (sym same))
 part_refuses past (lacking name) e same = ap Some (sym same)
 part_refuses past mark e h = absurd h
 part_refuses past (unknown place word) e same = ap Some (sym same)
@@ -144,7 +146,7 @@ other_fine : (name : CommandName) (p : Part) → other_fault name p ≡ None →
 other_fine name (plain place word) h = tt
 other_fine name (given place option value) h =
     elim (cases_Bool (is_for option name)) [
-      | inl own ↦ own
+      | inl own ↦ for_has option name own
       | inr other ↦ cc (rw other at h)
     ]
 other_fine name (lacking option) h = tt
@@ -153,7 +155,7 @@ other_fine name (unknown place word) h = tt
 
 other_passes : (name : CommandName) (p : Part) → IsFor name p → other_fault name p ≡ None
 other_passes name (plain place word) g = refl
-other_passes name (given place option value) g = rw g refl
+other_passes name (given place option value) g = rw (has_for option name g) refl
 other_passes name (lacking option) g = refl
 other_passes name mark g = refl
 other_passes name (unknown place word) g = refl
@@ -163,7 +165,7 @@ other_bad name (plain place word) e h = cc h
 other_bad name (given place option value) e h =
     elim (cases_Bool (is_for option name)) [
       | inl own ↦ absurd (let none : None ≡ Some e = rw own at h in cc none)
-      | inr other ↦ (other, same_fault (At place kind.NotForCommand) e (rw other at h))
+      | inr other ↦ (λ own. both_ways (is_for option name) other (has_for option name own), same_fault (At place kind.NotForCommand) e (rw other at h))
     ]
 other_bad name (lacking option) e h = cc h
 other_bad name mark e h = cc h
@@ -171,7 +173,8 @@ other_bad name (unknown place word) e h = cc h
 
 other_refuses : (name : CommandName) (p : Part) (e : WordsFault) → IsOtherFault name p e → other_fault name p ≡ Some e
 other_refuses name (plain place word) e h = absurd h
-other_refuses name (given place option value) e (other, same) = rw other (ap Some (sym same))
+other_refuses name (given place option value) e (other, same) =
+    rw (false_from_ne_true (is_for option name) (λ own. other (for_has option name own))) (ap Some (sym same))
 other_refuses name (lacking option) e h = absurd h
 other_refuses name mark e h = absurd h
 other_refuses name (unknown place word) e h = absurd h

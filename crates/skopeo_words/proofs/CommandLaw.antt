@@ -30,7 +30,7 @@ use Rattle.skopeo_words.proofs.ClassLaw.{or_none, or_some, all_good, good_all, f
 use Rattle.skopeo_words.proofs.FieldLaw.{fields_by, fields_made, fields_count, fields_ends}
 use Rattle.skopeo_words.proofs.FitLaw.{fits_by, pair_none}
 use Rattle.skopeo_words.proofs.PairLaw.{pair_row, row_pair}
-use Rattle.skopeo_words.proofs.PartsLaw.{parts_are, parts_once}
+use Rattle.skopeo_words.proofs.LineLaw.{line_is, line_once}
 
 -- ---- a command that is in order
 
@@ -75,7 +75,7 @@ pub read_command : (words : List (List ℕ)) (c : Command) → command_of words 
 unfolding command_in
 read_command words c h = record {
   parts = parts_of words;
-  are_parts = parts_are words;
+  are_parts = line_is words;
   gives = ok_gives (length words + 1) (parts_of words) (asked (parts_of words)) c refl h;
 }
 
@@ -95,7 +95,7 @@ gives_is past parts c (inr i) = rw (not_asked parts (λ d a. good_not parts d i.
 
 pub command_read : (words : List (List ℕ)) (c : Command) → CommandOf words c → command_of words ≡ Ok c
 command_read words c i =
-    ap (command_in (length words + 1)) (parts_once i.parts 1 words i.are_parts) ∙ gives_is (length words + 1) i.parts c i.gives
+    ap (command_in (length words + 1)) (line_once i.parts words i.are_parts) ∙ gives_is (length words + 1) i.parts c i.gives
 
 -- words ask for one thing at most
 pub one_command : (words : List (List ℕ)) (c d : Command) → CommandOf words c → CommandOf words d → c ≡ d
@@ -200,7 +200,7 @@ pub fault_first : (words : List (List ℕ)) (e : WordsFault) → command_of word
 unfolding command_in
 fault_first words e h =
     let f = err_asked (length words + 1) (parts_of words) (asked (parts_of words)) e refl h in
-    record { parts = parts_of words; are_parts = parts_are words; not_asked = f.not_asked; is_fault = f.is_fault }
+    record { parts = parts_of words; are_parts = line_is words; not_asked = f.not_asked; is_fault = f.is_fault }
 
 lacking_is : (past : ℕ) (parts : List Part) (operands : List Placed) (e : WordsFault) → LacksName past operands e → with_operands past parts operands ≡ Err e
 lacking_is past parts [] e h = rw h refl
@@ -219,7 +219,7 @@ asked_err past parts e k f = rw k (table_err past parts e f)
 
 pub first_fault_read : (words : List (List ℕ)) (e : WordsFault) → FirstFaultOf words e → command_of words ≡ Err e
 first_fault_read words e f =
-    ap (command_in (length words + 1)) (parts_once f.parts 1 words f.are_parts) ∙ asked_err (length words + 1) f.parts e (not_asked f.parts f.not_asked) f.is_fault
+    ap (command_in (length words + 1)) (line_once f.parts words f.are_parts) ∙ asked_err (length words + 1) f.parts e (not_asked f.parts f.not_asked) f.is_fault
 
 -- ---- both ways
 

@@ -1,6 +1,6 @@
 -- The rows of a command's fields have one command, and it is the one that is made.
-use Rattle.std.proofs.Common.{◌≡◌, ℕ, List, [], ◌∷◌, map, length, Bool, true, false, Option, Some, None, refl, sym, ap, subst, ◌∙◌, arith, inl, inr}
-use Rattle.std.specs.Prelude.{is_some, IsSome, option_map, option_and_then, unwrap_or}
+use Rattle.std.proofs.Common.{◌≡◌, ℕ, List, [], ◌∷◌, length, Bool, true, false, Option, Some, None, refl, sym, ap, subst, ◌∙◌, arith, inl, inr}
+use Rattle.std.specs.Prelude.{IsSome, option_map, option_and_then, unwrap_or}
 use Rattle.std.specs.List.{All}
 use Rattle.skopeo_words.specs.CommandOf.{IsGood}
 use Rattle.skopeo_words.specs.Fields.{IsText, IsFlag, IsChoice, base_value, AreCommon, ArePassing, HaveTexts, AreNumbered, HasFields}
@@ -27,6 +27,7 @@ use Rattle.skopeo_words.specs.declared.table.Kind.TheVariants as kind
 use Rattle.skopeo_words.specs.declared.table.OptionName.{OptionName}
 use Rattle.skopeo_words.specs.declared.table.OptionName.TheVariants as option
 use Rattle.skopeo_words.proofs.FoundLaw.{IsLastOr, found, none_of, is_last, middle}
+use Rattle.skopeo_words.proofs.TableLaw.{takes_kind}
 
 -- ---- one field
 
@@ -61,7 +62,7 @@ or_by read other name parts (Some x) says = inl says
 kind_reads : (k : Kind) (name : OptionName) (parts : List Part) → kind_of name ≡ k → All IsGood parts → (value : Placed) → IsLast name parts value → is_value k value.text ≡ true
 kind_reads k name parts same good value last =
     let all = subst (All IsGood) last.joined good in
-    subst (λ x. is_value x value.text ≡ true) same (middle IsGood last.before (given value.at name value.text) last.after all)
+    subst (λ x. is_value x value.text ≡ true) same (takes_kind name value.text (middle IsGood last.before (given value.at name value.text) last.after all))
 
 -- ---- by what the option takes
 

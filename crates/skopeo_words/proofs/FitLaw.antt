@@ -1,14 +1,13 @@
 -- A command fits exactly where class 6 has no fault of it.
-use Rattle.std.proofs.Common.{◌≡◌, ℕ, List, [], ◌∷◌, length, take, Bool, true, false, not, ◌&&◌, Option, Some, None, codes, refl, sym, ap, subst, ◌∙◌, arith, inl, inr}
-use Rattle.std.specs.Prelude.{is_some, option_map, option_and_then, unwrap_or}
+use Rattle.std.proofs.Common.{◌≡◌, ℕ, List, [], ◌∷◌, length, take, true, false, ◌&&◌, Option, Some, None, codes, refl, sym, subst, ◌∙◌, arith, inl, inr}
+use Rattle.std.specs.Prelude.{option_map, option_and_then, unwrap_or}
 use Rattle.std.specs.Str.{bytes_eq}
 use Rattle.std.proofs.lemmas.Bool.{cases_Bool, and_parts, and_from, false_from_ne_true}
-use Rattle.std.proofs.lemmas.Slice.Eq.{bytes_eq-Decides}
 use Rattle.skopeo_words.specs.Fields.{HaveTexts, Begins, Fits, HasFields}
 use Rattle.skopeo_words.specs.FirstFault.{wanted}
 use Rattle.skopeo_words.specs.Found.{Placed}
-use Rattle.skopeo_words.specs.LastOf.{last_of, text_of, first_text, second_text}
-use Rattle.skopeo_words.specs.Made.{format_of, end_in, made}
+use Rattle.skopeo_words.specs.LastOf.{last_of, first_text, second_text}
+use Rattle.skopeo_words.specs.Made.{made}
 use Rattle.skopeo_words.specs.Pairs.{says, is_on, bad_pair, needs_raw, bad_format, not_docker, bad_number, pair_fault}
 use Rattle.skopeo_words.specs.Parts.{Part}
 use Rattle.skopeo_words.specs.Values.{number_upto, format_value, end_value}
@@ -16,13 +15,11 @@ use Rattle.skopeo_words.specs.declared.command.Command.{Command}
 use Rattle.skopeo_words.specs.declared.command.Command.TheVariants as command
 use Rattle.skopeo_words.specs.declared.command.CommandName.{CommandName}
 use Rattle.skopeo_words.specs.declared.command.CommandName.TheVariants.{Copy, Sync, Inspect, ListTags, Delete, MakeImages}
-use Rattle.skopeo_words.specs.declared.command.Format.{Format}
 use Rattle.skopeo_words.specs.declared.command.Format.TheVariants.{Oci, V2s2}
 use Rattle.skopeo_words.specs.declared.command.SyncEnd.{SyncEnd}
 use Rattle.skopeo_words.specs.declared.command.SyncEnd.TheVariants.{Docker, Dir}
-use Rattle.skopeo_words.specs.declared.fault.WordsFault.{WordsFault}
 use Rattle.skopeo_words.specs.declared.table.OptionName.TheVariants as option
-use Rattle.skopeo_words.proofs.PairLaw.{same_text, text_same}
+use Rattle.skopeo_words.proofs.FoundLaw.{same_text, text_same}
 
 -- ---- what values say
 

@@ -1,6 +1,8 @@
 -- The last value of an option, as it is found, is the last that a part gives.
 use Rattle.std.proofs.Common.{◌≡◌, ℕ, List, [], ◌∷◌, ◌++◌, get_or, Option, Some, None, true, refl, sym, ap, subst, ◌∙◌, inl, inr}
 use Rattle.std.specs.List.{All}
+use Rattle.std.specs.Str.{bytes_eq}
+use Rattle.std.proofs.lemmas.Slice.Eq.{bytes_eq-Decides}
 use Rattle.std.proofs.lemmas.Bool.{cases_Bool, eqb-true, eq-eqb, both_ways, false_from_ne_true}
 use Rattle.std.proofs.lemmas.List.Elements.{All-cons, All-nil, All-head, All-tail}
 use Rattle.skopeo_words.specs.Found.{Placed, GivesNone, IsAbsent, IsLast}
@@ -11,12 +13,18 @@ use Rattle.skopeo_words.specs.declared.table.Kind.TheVariants as kind
 use Rattle.skopeo_words.specs.declared.table.OptionName.{OptionName}
 use Rattle.skopeo_words.specs.declared.table.OptionName.TheVariants as option
 
+pub same_text : (a b : List ℕ) → bytes_eq a b ≡ true → a ≡ b
+same_text a b = (bytes_eq-Decides a b).0
+
+pub text_same : (a b : List ℕ) → a ≡ b → bytes_eq a b ≡ true
+text_same a b = (bytes_eq-Decides a b).1
+
 -- ---- names of one option
 
-abbrev named_at : ℕ → OptionName
+abbrev pub named_at : ℕ → OptionName
 named_at n = (get_or options n (row [] option.Policy kind.Truth [])).name
 
-at_row : (a : OptionName) → named_at (row_of a) ≡ a
+pub at_row : (a : OptionName) → named_at (row_of a) ≡ a
 at_row option.Policy = refl
 at_row option.RegistriesConf = refl
 at_row option.LocationCache = refl

@@ -1,5 +1,5 @@
 -- Each page opens with its use, and names the options that are for it: their texts are computed.
-use Rattle.std.proofs.Common.{◌≡◌, Option, Some, None, refl}
+use Rattle.std.proofs.Common.{Option, Some, None, refl}
 use Rattle.skopeo_words.specs.Help.{page_of}
 use Rattle.skopeo_words.specs.Page.{IsOn, NamesOptions}
 use Rattle.skopeo_words.specs.declared.command.CommandName.{CommandName}

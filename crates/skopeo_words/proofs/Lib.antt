@@ -1,5 +1,8 @@
 pub mod PartsLaw
 pub mod FoundLaw
+pub mod TableLaw
+pub mod FormLaw
+pub mod LineLaw
 pub mod FieldLaw
 pub mod PairLaw
 pub mod FitLaw

@@ -1,42 +1,27 @@
 -- Class 6: what the code looks for, the rows, and what fits.
-use Rattle.std.proofs.Common.{◌≡◌, ℕ, max, List, [], ◌∷◌, length, take, Bool, true, false, not, ◌&&◌, Option, Some, None, codes, refl, sym, ap, subst, ◌∙◌, arith, inl, inr}
-use Rattle.std.specs.Prelude.{◌↔◌, is_some, option_map, option_and_then, unwrap_or, nat_le}
+use Rattle.std.proofs.Common.{◌≡◌, ℕ, max, List, [], ◌∷◌, take, Bool, true, false, ◌&&◌, Option, Some, None, codes, refl, sym, ap, subst, ◌∙◌, arith, inl, inr}
+use Rattle.std.specs.Prelude.{nat_le}
 use Rattle.std.specs.List.{All}
 use Rattle.std.specs.Str.{bytes_eq}
 use Rattle.std.proofs.lemmas.Bool.{cases_Bool, and_parts, leb-true, leb-false, false_from_ne_true}
-use Rattle.std.proofs.lemmas.Slice.Eq.{bytes_eq-Decides}
 use Rattle.skopeo_words.specs.CommandOf.{IsGood}
-use Rattle.skopeo_words.specs.Fields.{IsFlag, Begins, Fits, HasFields}
-use Rattle.skopeo_words.specs.FirstFault.{wanted}
-use Rattle.skopeo_words.specs.Found.{Placed, IsLast}
-use Rattle.skopeo_words.specs.LastOf.{last_of, text_of, first_text, second_text}
-use Rattle.skopeo_words.specs.Made.{flag_of, format_of, end_in, made}
-use Rattle.skopeo_words.specs.PairFault.{HasText, IsOn, IsOther, IsNoDocker, IsLayout, IsNoNumber, IsPairFault}
+use Rattle.skopeo_words.specs.Fields.{IsFlag, Begins}
+use Rattle.skopeo_words.specs.Found.{Placed}
+use Rattle.skopeo_words.specs.LastOf.{last_of, second_text}
+use Rattle.skopeo_words.specs.PairFault.{HasText, IsOn, IsNoDocker, IsLayout, IsNoNumber, IsPairFault}
 use Rattle.skopeo_words.specs.Pairs.{says, is_yes, is_on, place_of, later, bad_pair, needs_raw, bad_format, not_docker, bad_number, pair_fault}
 use Rattle.skopeo_words.specs.Parts.{Part}
 use Rattle.skopeo_words.specs.Table.{kind_of}
-use Rattle.skopeo_words.specs.Values.{truth_value, number_upto, format_value, end_value}
-use Rattle.skopeo_words.specs.declared.command.Command.{Command}
-use Rattle.skopeo_words.specs.declared.command.Command.TheVariants as command
+use Rattle.skopeo_words.specs.Values.{truth_value, number_upto}
 use Rattle.skopeo_words.specs.declared.command.CommandName.{CommandName}
 use Rattle.skopeo_words.specs.declared.command.CommandName.TheVariants.{Copy, Sync, Inspect, ListTags, Delete, MakeImages}
-use Rattle.skopeo_words.specs.declared.command.Format.{Format}
-use Rattle.skopeo_words.specs.declared.command.Format.TheVariants.{V2s2}
-use Rattle.skopeo_words.specs.declared.command.SyncEnd.{SyncEnd}
-use Rattle.skopeo_words.specs.declared.command.SyncEnd.TheVariants.{Docker, Dir}
 use Rattle.skopeo_words.specs.declared.fault.WordsFault.{WordsFault}
 use Rattle.skopeo_words.specs.declared.fault.WordsFault.TheVariants.{At}
 use Rattle.skopeo_words.specs.declared.fault.WordsKind.TheVariants as kind
 use Rattle.skopeo_words.specs.declared.table.OptionName.{OptionName}
 use Rattle.skopeo_words.specs.declared.table.OptionName.TheVariants as option
-use Rattle.skopeo_words.proofs.FoundLaw.{IsLastOr, found, is_last}
+use Rattle.skopeo_words.proofs.FoundLaw.{same_text, text_same, IsLastOr, found, is_last}
 use Rattle.skopeo_words.proofs.FieldLaw.{flag_is, flag_by}
-
-pub same_text : (a b : List ℕ) → bytes_eq a b ≡ true → a ≡ b
-same_text a b = (bytes_eq-Decides a b).0
-
-pub text_same : (a b : List ℕ) → a ≡ b → bytes_eq a b ≡ true
-text_same a b = (bytes_eq-Decides a b).1
 
 some_same : {A : Type 0} (a b : A) → Some a ≡ Some b → a ≡ b
 some_same a b h = cc h

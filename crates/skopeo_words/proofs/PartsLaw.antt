@@ -1,9 +1,29 @@
--- Words have one row of parts, and it is the one that is read.
-use Rattle.std.proofs.Common.{◌≡◌, ℕ, ◌+◌, List, [], ◌∷◌, refl, ap, inl, inr}
+-- Words have one row of parts by their forms, and it is the one that is read.
+use Rattle.std.proofs.Common.{◌≡◌, ℕ, ◌+◌, ◌⊎◌, List, [], ◌∷◌, refl, ap, inl, inr}
 use Rattle.skopeo_words.specs.Forms.{Form, form_of, operand, end_mark, no_option, gives, takes}
-use Rattle.skopeo_words.specs.Parts.{Part, plain, given, lacking, mark, unknown, operands_from, AreParts}
+use Rattle.skopeo_words.specs.Parts.{Part, plain, given, lacking, mark, unknown, operands_from}
 use Rattle.skopeo_words.specs.Scan.{step, step_of, then_parts, parts_from, parts_of}
 use Rattle.skopeo_words.specs.declared.parts.State.TheVariants.{Reading, Ended}
+
+-- the words, from a place on, are these parts one after the other, by the forms of words
+abbrev pub AreParts : List Part → ℕ → List (List ℕ) → Type 0
+AreParts [] at words = words ≡ []
+AreParts (plain place word ∷ more) at words =
+    (rest : List (List ℕ)) × (words ≡ word ∷ rest) × (place ≡ at)
+    × (form_of word ≡ operand) × AreParts more (at + 1) rest
+AreParts (given place name value ∷ more) at words =
+    (word : List ℕ) × (rest : List (List ℕ)) × (place ≡ at)
+    × (((words ≡ word ∷ rest) × (form_of word ≡ gives name value) × AreParts more (at + 1) rest)
+    ⊎ ((words ≡ word ∷ value ∷ rest) × (form_of word ≡ takes name)
+    × AreParts more (at + 1 + 1) rest))
+AreParts (lacking name ∷ more) at words =
+    (word : List ℕ) × (words ≡ word ∷ []) × (form_of word ≡ takes name) × (more ≡ [])
+AreParts (mark ∷ more) at words =
+    (word : List ℕ) × (rest : List (List ℕ)) × (words ≡ word ∷ rest)
+    × (form_of word ≡ end_mark) × (more ≡ operands_from (at + 1) rest)
+AreParts (unknown place word ∷ more) at words =
+    (rest : List (List ℕ)) × (words ≡ word ∷ rest) × (place ≡ at)
+    × (form_of word ≡ no_option) × AreParts more (at + 1) rest
 
 -- behind the mark
 ended : (words : List (List ℕ)) (at : ℕ) → parts_from words Ended at ≡ operands_from at words

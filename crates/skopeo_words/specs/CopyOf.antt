@@ -3,7 +3,8 @@ use Rattle.std.specs.Prelude.{ℕ, List, Bool}
 use Rattle.skopeo_words.specs.CommandOf.{AreInOrder}
 use Rattle.skopeo_words.specs.Fields.{IsCopy, FitsPlace}
 use Rattle.skopeo_words.specs.Found.{Placed}
-use Rattle.skopeo_words.specs.Parts.{Part, AreParts}
+use Rattle.skopeo_words.specs.Line.{IsLine}
+use Rattle.skopeo_words.specs.Parts.{Part}
 use Rattle.skopeo_words.specs.declared.command.CommandName.TheVariants.{Copy}
 use Rattle.skopeo_words.specs.declared.command.Common.{Common}
 use Rattle.skopeo_words.specs.declared.command.Passing.{Passing}
@@ -12,7 +13,7 @@ use Rattle.skopeo_words.specs.declared.command.Passing.{Passing}
 pub record CopyOf (words : List (List ℕ)) (common : Common) (passing : Passing) (quiet short_names : Bool)
     (source dest : List ℕ) : Type 0 where
   pub parts : List Part
-  pub are_parts : AreParts parts 1 words
+  pub are_parts : IsLine parts 1 words
   pub operands : List Placed
   pub in_order : AreInOrder parts Copy operands
   pub fields : IsCopy parts operands common passing quiet short_names source dest

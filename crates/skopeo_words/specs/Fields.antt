@@ -1,6 +1,6 @@
 -- The fields of a command: a row for each, with the option whose last value it is. Texts are as they
 -- are written; what is not given is None or false, or 6 lanes.
-use Rattle.std.specs.Prelude.{◌≡◌, ℕ, List, [], ◌∷◌, map, length, take, Bool, true, false, Option, Some, None, codes}
+use Rattle.std.specs.Prelude.{◌≡◌, ℕ, List, [], ◌∷◌, map, length, take, Bool, true, false, Option, Some, codes}
 use Rattle.skopeo_words.specs.Found.{Placed, as_written, Says, IsGiven, IsOr}
 use Rattle.skopeo_words.specs.Parts.{Part}
 use Rattle.skopeo_words.specs.Values.{truth_value, number_upto, format_value, end_value, without_slashes}

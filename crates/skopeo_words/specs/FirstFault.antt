@@ -1,14 +1,14 @@
 -- The first fault of words that ask for nothing: six classes in this order, each over all words. A
 -- fault of an earlier class comes before every one of a later class, wherever it stands.
-use Rattle.std.specs.Prelude.{◌≡◌, ℕ, ◌+◌, ◌<◌, List, [], ◌∷◌, ◌++◌, length, false, Some, None, ◌⊎◌}
+use Rattle.std.specs.Prelude.{◌≡◌, ℕ, ◌+◌, ◌<◌, List, [], ◌∷◌, ◌++◌, length, None, ◌⊎◌}
 use Rattle.std.specs.List.{All}
 use Rattle.skopeo_words.specs.Asked.{AsksFor}
-use Rattle.skopeo_words.specs.CommandOf.{IsGood, IsFor, IsNamed}
+use Rattle.skopeo_words.specs.CommandOf.{TakesValue, IsForCommand, IsGood, IsFor, IsNamed}
 use Rattle.skopeo_words.specs.Found.{Placed, operands_of, IsLast}
+use Rattle.skopeo_words.specs.Line.{IsLine}
 use Rattle.skopeo_words.specs.PairFault.{IsPairFault}
-use Rattle.skopeo_words.specs.Parts.{Part, plain, given, lacking, mark, unknown, AreParts}
-use Rattle.skopeo_words.specs.Table.{kind_of, is_for, command_named}
-use Rattle.skopeo_words.specs.Values.{is_value}
+use Rattle.skopeo_words.specs.Parts.{Part, plain, given, lacking, mark, unknown}
+use Rattle.skopeo_words.specs.Table.{command_named}
 use Rattle.skopeo_words.specs.declared.command.Command.{Command}
 use Rattle.skopeo_words.specs.declared.command.CommandName.{CommandName}
 use Rattle.skopeo_words.specs.declared.command.CommandName.TheVariants.{Copy, Sync, Inspect, ListTags, Delete, MakeImages}
@@ -33,7 +33,7 @@ pub record IsFirst (Fine : Part → Type 0) (Bad : Part → WordsFault → Type 
 abbrev pub IsPartFault : ℕ → Part → WordsFault → Type 0
 IsPartFault past (plain place word) fault = ⊥
 IsPartFault past (given place name value) fault =
-    (is_value (kind_of name) value ≡ false) × (fault ≡ At place kind.BadValue)
+    (TakesValue name value → ⊥) × (fault ≡ At place kind.BadValue)
 IsPartFault past (lacking name) fault = fault ≡ At past kind.MissingValue
 IsPartFault past mark fault = ⊥
 IsPartFault past (unknown place word) fault = fault ≡ At place kind.UnknownOption
@@ -48,7 +48,7 @@ LacksName past (first ∷ operands) fault =
 abbrev pub IsOtherFault : CommandName → Part → WordsFault → Type 0
 IsOtherFault command (plain place word) fault = ⊥
 IsOtherFault command (given place name value) fault =
-    (is_for name command ≡ false) × (fault ≡ At place kind.NotForCommand)
+    (IsForCommand name command → ⊥) × (fault ≡ At place kind.NotForCommand)
 IsOtherFault command (lacking name) fault = ⊥
 IsOtherFault command mark fault = ⊥
 IsOtherFault command (unknown place word) fault = ⊥
@@ -110,6 +110,6 @@ IsTableFault past parts fault =
 -- the words ask for nothing, and this is their first fault
 pub record FirstFaultOf (words : List (List ℕ)) (fault : WordsFault) : Type 0 where
   pub parts : List Part
-  pub are_parts : AreParts parts 1 words
+  pub are_parts : IsLine parts 1 words
   pub not_asked : (command : Command) → AsksFor parts command → ⊥
   pub is_fault : IsTableFault (length words + 1) parts fault

@@ -1,9 +1,5 @@
--- What a word is by itself, where options are read.
---
---   option = "--" name ["=" value] | "-a" | "-q" | "-n" | "-f" | "-s" | "-d"
---
--- A truth option without "=" has the value `true`. Another option without "=" takes the next word.
--- A word of one byte, and one that begins with no dash, is an operand; "--" ends the options.
+-- What a word is by itself, where options are read, as the code reads it. `Line` has what the table says
+-- of it.
 use Rattle.std.specs.Prelude.{ℕ, List, length, take, drop, ◌&&◌, ◌==◌, nat_lt, Option, Some, None, if◌then◌else◌, codes, slice_index}
 use Rattle.std.specs.Str.{bytes_eq}
 use Rattle.image_ref.specs.Characters.{dash}

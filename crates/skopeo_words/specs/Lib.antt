@@ -3,6 +3,7 @@ pub mod CopyOf
 pub mod FirstFault
 pub mod PairFault
 pub mod Parts
+pub mod Line
 pub mod Forms
 pub mod Table
 pub mod Values
