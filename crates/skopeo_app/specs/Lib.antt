@@ -13,3 +13,5 @@ pub mod Lines
 pub mod Answer
 pub mod Reads
 pub mod Calls
+pub mod ByTree
+pub mod Complete
