@@ -100,7 +100,7 @@ pub ready_may : (from : Source) (dest : Dest) (jobs : List Job) (x y z : List La
 unfolding Ends readying on_first taking
 ready_may from dest jobs x y z done ends same =
     let taken = then_ok ends.ends in
-    first_any (MayTake dest) x taken.0.lanes z (first_with (λ a b. Ends lane_course (taking dest) a b (Ok taken.1)) (λ a b. MayTake dest a) (λ a b e. e.ends) x taken.0.lanes taken.2.0) same
+    first_any (MayTake dest) x taken.0.lanes z (first_with (λ a b. Ends lane_course (taking dest) a b (Ok taken.1)) (λ a b. MayTake dest a) (λ a b e. e.ends.0) x taken.0.lanes taken.2.0) same
 
 -- ---- a `Ready` was written
 

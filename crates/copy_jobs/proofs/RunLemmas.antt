@@ -1,7 +1,9 @@
 -- From receipts to "each job was done on some lane", over lanes that were lent and given back.
-use Rattle.std.proofs.Common.{◌≡◌, ◌≢◌, ◌⊎◌, ◌∙◌, ◌<◌, ◌≤◌, ◌+◌, List, [], ◌∷◌, ◌++◌, ℕ, zero, suc, length, map, All, Contains, Bool, true, false, cond, ◌==◌, Option, Some, None, Result, Ok, Err, IfOk, OnOk, get_or, slice_get, inl, inr, refl, sym, ap, subst, length-append, arith}
+use Rattle.std.proofs.Common.{◌≡◌, ◌≢◌, ◌⊎◌, ◌∙◌, ◌<◌, ◌≤◌, ◌+◌, List, [], ◌∷◌, ◌++◌, ℕ, zero, suc, length, map, take, All, Contains, Bool, true, false, cond, ◌==◌, Option, Some, None, Result, Ok, Err, IfOk, OnOk, get_or, slice_get, inl, inr, refl, sym, ap, subst, length-append, arith}
 use Rattle.std.specs.Str.{bytes_eq}
 use Rattle.std.proofs.lemmas.Slice.Eq.{bytes_eq-Decides}
+use native.Mathlib.Decide.{dec_le, ℕ_discrete}
+use mathlib.Core.Logic.{dite}
 use Rattle.std.proofs.lemmas.Option.{get_or_from_slice_get, slice_get-get_or, slice_get_within}
 use Rattle.skopeo_outside.specs.LaneTold.{LaneTold}
 use Rattle.skopeo_outside.specs.Seen.{OnEach, OnSome, KeepsFrom}
@@ -15,6 +17,9 @@ use Rattle.copy_workers.specs.Jobs.{AreJobs}
 use Rattle.copy_workers.specs.Asked.{answers_to}
 use Rattle.copy_workers.specs.Kept.{KeepsAll}
 use Rattle.copy_workers.specs.Secured.{AreLanes, IsLeastFault, IsJobFault}
+use Rattle.copy_workers.specs.Secured as workers
+use Rattle.copy_workers.specs.Lanes.{EndsAs}
+use Rattle.copy_workers.specs.declared.receipt.How.{How}
 use Rattle.transports.specs.declared.source.Source.{Source}
 use Rattle.transports.specs.declared.dest.Dest.{Dest}
 use Rattle.transports.specs.declared.refusal.Refusal.{Refusal}
@@ -22,12 +27,13 @@ use Rattle.transports.specs.declared.refusal.Refusal.TheVariants as refusal
 use Rattle.transports.specs.Refusals.{by_cause}
 use Rattle.transports.specs.StepEnds.{IsDone, FailsBy}
 use Rattle.transports.specs.Fair.{Works, AllWork}
-use Rattle.transports.specs.Named.{AddsOnly, IsOfJobs}
+use Rattle.transports.specs.Named.{AddsOnly, BringsOnly, IsOfJobs}
 use Rattle.transports.proofs.SameLemmas.{works_same}
 use Rattle.transports.proofs.WorkLemmas.{adds_same, adds_wider}
+use Rattle.transports.proofs.BringLemmas.{brings_same, brings_wider}
 use Rattle.copy_jobs.specs.Lane.{LaneState, IsSound, IsFresh, fault_of, WasAsked, lane_lore}
 use Rattle.copy_jobs.specs.Lent.{AreFresh, AreLent, HasRun}
-use Rattle.copy_jobs.specs.Secured.{AreDone, IsLeast, JobsEnd, AreReceipts}
+use Rattle.copy_jobs.specs.Secured.{AreDone, WasDrawn, WereDrawn, IsLeast, JobsEnd, AreReceipts}
 use Rattle.copy_jobs.proofs.StateLemmas.{fault_kept, this_fault}
 use Rattle.copy_jobs.proofs.LentLemmas.{fresh_count, at_front, at_map}
 
@@ -254,6 +260,59 @@ run_adds source dest jobs count old new receipts r =
     quiet : (k : ℕ) (on : LaneState) → slice_get r.ends k ≡ Some on → All (λ j. fault_of on.failure j ≡ None) jobs
     quiet k on e = subst (λ (l : LaneState). All (λ j. fault_of l.failure j ≡ None) jobs) (get_or_from_slice_get r.ends k on on e) (r.secured.quiet k on (slice_get_within r.ends k on e))
 
+-- a job among the first ones
+among_first : (jobs : List Job) (count k : ℕ) (job : Job) → k < count → slice_get jobs k ≡ Some job → slice_get (take count jobs) k ≡ Some job
+among_first [] count k job lt at = let no : None ≡ Some job = at in cc
+among_first (j ∷ jobs) zero k job lt at = absurd (omega (arith, lt))
+among_first (j ∷ jobs) (suc count) zero job lt at = at
+among_first (j ∷ jobs) (suc count) (suc k) job lt at = among_first jobs count k job (omega (arith, lt)) at
+
+module _ (source : Source) (dest : Dest) (jobs : List Job) (count : ℕ) (old new : List LaneTold) (outcome : Result (List Issued) JobFault) (r : HasRun source dest jobs count old new outcome) where
+  -- what a lane brought, where it was asked for none but such digests
+  lane_brings : (P : List ℕ → Type 0) (k : ℕ) (on : LaneState) → slice_get r.ends k ≡ Some on → (o : IsOne source dest old new k on) → ((d : List ℕ) → WasAsked on.asked d → P d) → BringsOnly dest P o.before on.lane
+  lane_brings P k on e o f =
+      subst (λ x. BringsOnly dest P x on.lane) o.origin (subst (λ d. BringsOnly d P on.origin on.lane) o.dest_is
+      (brings_wider on.dest (WasAsked on.asked) P f on.origin on.lane (sound_at source dest jobs count old new outcome r k on e).brings))
+
+  -- how a job ended on its lane
+  drawn_end : (k : ℕ) (on : LaneState) (j : Job) (end : Result How Cause) → slice_get r.ends k ≡ Some on → EndsAs lane_lore on j end → (o : IsOne source dest old new k on)
+      → IsDone source dest j o.before on.lane ⊎ ((cause : Cause) × FailsBy source j cause o.before on.lane)
+  drawn_end k on j (Ok how) e told o = inl (subst (λ s. IsDone s dest j o.before on.lane) o.source_is (subst (λ d. IsDone on.source d j o.before on.lane) o.dest_is (subst (λ b. IsDone on.source on.dest j b on.lane) o.origin told.0)))
+  drawn_end k on j (Err cause) e told o = inr (cause, subst (λ s. FailsBy s j cause o.before on.lane) o.source_is (subst (λ b. FailsBy on.source j cause b on.lane) o.origin (fault_kept on j cause (sound_at source dest jobs count old new outcome r k on e) told.0)))
+
+  was_drawn : (j : Job) → workers.WasDrawn lane_lore jobs r.ends j → WasDrawn source dest j old new
+  was_drawn j w =
+      let o = one_at source dest jobs count old new outcome r w.place w.on w.lane in
+      record {
+        place = w.place;
+        before = o.before;
+        after = w.on.lane;
+        was = o.was;
+        now = o.now;
+        ends = drawn_end w.place w.on j w.outcome w.lane w.told o;
+        once = each_lane source dest jobs count old new outcome r (λ m a b. (m ≡ w.place) ⊎ BringsOnly dest (λ d. d ≢ j.digest) a b) other (λ m a. inr (brings_same dest (λ d. d ≢ j.digest) a));
+      }
+    where
+      other : (m : ℕ) (on : LaneState) → slice_get r.ends m ≡ Some on → (o : IsOne source dest old new m on) → (m ≡ w.place) ⊎ BringsOnly dest (λ d. d ≢ j.digest) o.before on.lane
+      other m on e o = dite (ℕ_discrete m w.place)
+          (λ is. inl is)
+          (λ apart. inr (lane_brings (λ d. d ≢ j.digest) m on e o (λ d was is. was (subst (λ x. answers_to on.asked x ≡ []) (sym is) (w.alone m on e apart)))))
+
+  were_drawn : (drawn : ℕ) → workers.WereDrawn lane_lore jobs r.ends drawn → WereDrawn source dest jobs drawn old new
+  were_drawn drawn w = record {
+    each = λ k j lt at. was_drawn j (w.finished k j lt at);
+    others = each_lane source dest jobs count old new outcome r (λ place a b. BringsOnly dest (IsOfJobs (take drawn jobs)) a b) (λ k on e o. lane_brings (IsOfJobs (take drawn jobs)) k on e o (first k on e)) (λ k a. brings_same dest (IsOfJobs (take drawn jobs)) a);
+  }
+    where
+      first : (k : ℕ) (on : LaneState) → slice_get r.ends k ≡ Some on → (d : List ℕ) → WasAsked on.asked d → IsOfJobs (take drawn jobs) d
+      first k on e d was = by (asked_of source dest jobs count old new outcome r k on e d was)
+        where
+          by : IsOfJobs jobs d → IsOfJobs (take drawn jobs) d
+          by i = elim (dec_le drawn i.0) [
+            | yes past ↦ absurd (was (subst (λ x. answers_to on.asked x ≡ []) i.3 (subst (λ (l : LaneState). answers_to l.asked i.1.digest ≡ []) (get_or_from_slice_get r.ends k on on e) (w.none i.0 i.1 past i.2 k on (slice_get_within r.ends k on e)))))
+            | no below ↦ (i.0, i.1, among_first jobs drawn i.0 i.1 (omega arith) i.2, i.3)
+          ]
+
 run_least : (source : Source) (dest : Dest) (jobs : List Job) (count : ℕ) (old new : List LaneTold) (fault : JobFault) → AreJobs jobs → HasRun source dest jobs count old new (Err fault) → IsLeast source dest jobs old new (by_cause fault.job fault.cause) ⊎ ((by_cause fault.job fault.cause ≡ refusal.Memory) × (new ≡ old))
 run_least source dest jobs count old new fault are r = by r.fault
   where
@@ -279,6 +338,9 @@ run_least source dest jobs count old new fault are r = by r.fault
             now = o.now;
             holds = subst (λ s. FailsBy s f.job fault.cause o.before f.on.lane) o.source_is (subst (λ b. FailsBy f.on.source f.job fault.cause b f.on.lane) o.origin (fault_kept f.on f.job fault.cause sound f.cause));
           };
+          drawn = f.drawn;
+          among = f.among;
+          first = were_drawn source dest jobs count old new (Err fault) r f.drawn f.first;
           lower = λ k j lower e. (let done = f.lower k j lower e in let p = placed source dest jobs count old new (Err fault) r done.on done.lane in
               done_at source dest jobs count old new (Err fault) r p.0 done.on j p.1 done.told);
         }

@@ -17,11 +17,12 @@ use Rattle.transports.specs.StepEnds.{IsDone, FailsBy}
 use Rattle.transports.specs.Has.{HasBlob, KeepsBlobs, IsReported}
 use Rattle.transports.specs.Given.{BlobEnds}
 use Rattle.transports.specs.Fair.{Works}
-use Rattle.transports.specs.Named.{AddsOnly}
+use Rattle.transports.specs.Named.{AddsOnly, BringsOnly}
 use Rattle.transports.proofs.GivenLemmas.{blob_later, blob_earlier, only_spares}
 use Rattle.transports.proofs.PieceLaws.{fails_alike}
 use Rattle.transports.proofs.HasLemmas.{has_earlier, reported_earlier, reported_later}
 use Rattle.transports.proofs.WorkLemmas.{works_then, works_later, works_only, adds_then, adds_wider}
+use Rattle.transports.proofs.BringLemmas.{brings_then, brings_wider, adds_brings}
 use Rattle.copy_jobs.specs.Lane.{LaneState, fault_of, WasAsked, IsSound, lane_lore}
 
 pub this_fault : (job : Job) (cause : Cause) → fault_of (Some (job, cause)) job ≡ Some cause
@@ -39,6 +40,12 @@ other_fault job other cause apart = by (bytes_eq job.digest other.digest) refl
 pub calm_none : (f : Option (Job × Cause)) → ((job : Job) → fault_of f job ≡ None) → f ≡ None
 calm_none None calm = refl
 calm_none (Some f) calm = let no : Some f.1 ≡ None = sym (this_fault f.0 f.1) ∙ calm f.0 in cc
+
+-- the failure that is kept
+pub kept_failure : (job noted : Job) (cause told : Cause) → noted ≡ job → told ≡ cause → ◌≡◌ {A = Option (Job × Cause)} (Some (job, cause)) (Some (noted, told))
+kept_failure job noted cause told j c =
+    let pair : Job → Cause → Option (Job × Cause) = λ x e. Some (x, e) in
+    ap (λ x. pair x cause) (sym j) ∙ ap (λ e. pair noted e) (sym c)
 
 -- ---- a lane that was asked
 
@@ -62,6 +69,12 @@ asked_still digest answer old new adds d was none = by (bytes_eq d digest) refl
 abbrev pub after : LaneState → LaneTold → Answered → Option (Job × Cause) → LaneState
 after l lane asked failure = record { lane = lane; origin = l.origin; source = l.source; dest = l.dest; failure = failure; asked = asked }
 
+-- blobs of a digest were added, and parts of them, by a lane that was asked for it
+brings_asked : (l : LaneState) (lane : LaneTold) (asked : Answered) (job : Job) (answer : LaneAnswer) → IsSound l → Works l.dest l.lane lane → BringsOnly l.dest (λ d. d ≡ job.digest) l.lane lane → Adds job.digest answer l.asked asked → BringsOnly l.dest (WasAsked asked) l.origin lane
+brings_asked l lane asked job answer so works brings more =
+    brings_then l.dest (WasAsked l.asked) (λ d. d ≡ job.digest) (WasAsked asked) (asked_still job.digest answer l.asked asked more) (λ d is. subst (WasAsked asked) (sym is) (asked_this job.digest answer l.asked asked more))
+    l.origin l.lane lane (works_later l.dest l.origin l.lane so.works).number so.brings brings
+
 -- a job was done
 pub sound_carried : (l : LaneState) (lane : LaneTold) (asked : Answered) (job : Job) (answer : LaneAnswer) → IsSound l → l.failure ≡ None → Works l.dest l.lane lane
     → AddsOnly l.dest (λ d. d ≡ job.digest) l.lane lane → Adds job.digest answer l.asked asked → IsSound (after l lane asked l.failure)
@@ -69,6 +82,7 @@ sound_carried l lane asked job answer so calm works adds more = record {
   apart = so.apart;
   works = works_then l.dest l.origin l.lane lane so.works works;
   cause = λ other cause e. (let no : None ≡ Some (other, cause) = sym calm ∙ e in cc);
+  brings = brings_asked l lane asked job answer so works (adds_brings l.dest (λ d. d ≡ job.digest) l.lane lane adds) more;
   adds = λ e. adds_then l.dest (WasAsked l.asked) (λ d. d ≡ job.digest) (WasAsked asked) (asked_still job.digest answer l.asked asked more) (λ d is. subst (WasAsked asked) (sym is) (asked_this job.digest answer l.asked asked more)) l.origin l.lane lane (so.adds calm) adds;
 }
 
@@ -78,6 +92,7 @@ sound_asked l asked job answer so more = record {
   apart = so.apart;
   works = so.works;
   cause = so.cause;
+  brings = brings_wider l.dest (WasAsked l.asked) (WasAsked asked) (asked_still job.digest answer l.asked asked more) l.origin l.lane so.brings;
   adds = λ calm. adds_wider l.dest (WasAsked l.asked) (WasAsked asked) (asked_still job.digest answer l.asked asked more) l.origin l.lane (so.adds calm);
 }
 
@@ -98,11 +113,12 @@ fails_earlier source dest job e a b c later blob (inl f) = inl (record { free = 
 fails_earlier source dest job e a b c later blob (inr f) = inr (blob e f)
 
 -- a job failed
-pub sound_failed : (l : LaneState) (lane : LaneTold) (asked : Answered) (job : Job) (e : Cause) → IsSound l → Works l.dest l.lane lane → FailsBy l.source job e l.lane lane → IsSound (after l lane asked (Some (job, e)))
-sound_failed l lane asked job e so works fails = record {
+pub sound_failed : (l : LaneState) (lane : LaneTold) (asked : Answered) (job : Job) (e : Cause) (answer : LaneAnswer) → IsSound l → Works l.dest l.lane lane → FailsBy l.source job e l.lane lane → BringsOnly l.dest (λ d. d ≡ job.digest) l.lane lane → Adds job.digest answer l.asked asked → IsSound (after l lane asked (Some (job, e)))
+sound_failed l lane asked job e answer so works fails brings more = record {
   apart = so.apart;
   works = works_then l.dest l.origin l.lane lane so.works works;
   cause = λ other cause is. (let p = pair_of job other e cause is in subst (λ x. FailsBy l.source other x l.origin lane) (sym p.1) (subst (λ j. FailsBy l.source j e l.origin lane) (sym p.0) since));
+  brings = brings_asked l lane asked job answer so works brings more;
   adds = λ calm. (let no : ◌≡◌ {A = Option (Job × Cause)} (Some (job, e)) None = calm in cc);
 }
   where

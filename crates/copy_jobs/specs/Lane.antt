@@ -13,7 +13,7 @@ use Rattle.transports.specs.declared.dest.Dest.{Dest}
 use Rattle.transports.specs.Places.{AreApart}
 use Rattle.transports.specs.StepEnds.{IsDone, FailsBy}
 use Rattle.transports.specs.Fair.{Works}
-use Rattle.transports.specs.Named.{AddsOnly}
+use Rattle.transports.specs.Named.{AddsOnly, BringsOnly}
 use Rattle.transports.specs.Uploads.{LeavesNoPart}
 
 -- no part of the job's blob is left, or a call that failed kept it from being removed
@@ -41,12 +41,13 @@ fault_of (Some f) job =
 abbrev pub WasAsked : Answered → List ℕ → Type 0
 WasAsked asked digest = answers_to asked digest ≢ []
 
--- what holds of each lane since it was made: it worked at the destination alone; a job that failed did so for its cause; and
--- while none has failed, nothing was added but blobs of jobs that it was asked for
+-- what holds of each lane since it was made: it worked at the destination alone; a job that failed did so for its cause;
+-- nothing was added but blobs of jobs that it was asked for, and parts of them; and no part while none has failed
 pub record IsSound (l : LaneState) : Type 0 where
   pub apart : AreApart l.source l.dest
   pub works : Works l.dest l.origin l.lane
   pub cause : (job : Job) (cause : Cause) → l.failure ≡ Some (job, cause) → FailsBy l.source job cause l.origin l.lane
+  pub brings : BringsOnly l.dest (WasAsked l.asked) l.origin l.lane
   pub adds : l.failure ≡ None → AddsOnly l.dest (WasAsked l.asked) l.origin l.lane
 
 -- nothing was answered yet

@@ -6,7 +6,7 @@ use Rattle.std.specs.List.Sorted.{IsNonDecreasingBy}
 use Rattle.std.proofs.lemmas.List.{get_or-map}
 use Rattle.std.proofs.Math.Seq.{get_or-append_seam}
 use Rattle.std.proofs.lemmas.List.Sorted.{All-permutation, IsPermutation-sym, sum_by-IsPermutation}
-use Rattle.std.proofs.lemmas.Option.{get_or_from_slice_get, slice_get_within}
+use Rattle.std.proofs.lemmas.Option.{get_or_from_slice_get, slice_get-get_or, slice_get_within}
 use Rattle.std.proofs.lemmas.Bool.Decides.{nat_tests}
 use Rattle.location_cache.specs.declared.view.View.{View}
 use Rattle.location_cache.specs.Rule.{once_to, none_failed}
@@ -20,7 +20,7 @@ use Rattle.copy_workers.specs.Answers.{Failed}
 use Rattle.copy_workers.specs.Jobs.{AreJobs}
 use Rattle.copy_workers.specs.Works.{ended, Stopped}
 use Rattle.copy_workers.specs.Outcomes.{outcome_of, failure, IsFirstFault}
-use Rattle.copy_workers.specs.Secured.{IsSecuredBy, AreSecured, Succeeded, IsLeastFault}
+use Rattle.copy_workers.specs.Secured.{IsSecuredBy, AreSecured, Succeeded, WereDrawn, IsLeastFault}
 use Rattle.copy_workers.specs.Gathered.{InOrder, Gathered}
 use Rattle.copy_workers.proofs.Ordering.{in_order, at_place, ascends}
 use Rattle.copy_workers.proofs.Working.{any_default, pick}
@@ -95,6 +95,58 @@ module _ {L O : Type 0} (tells : Lore L O) (jobs : List Job) (lanes : List L) (a
       let same : o.job ≡ 0 + k + 1 = ap (λ (y : Outcome). y.job) (sym is) ∙ at in
       r.gathered.told o job (r.from o (k, lk, is)) (k, lj, any_default jobs k _ _ lj) (omega arith)
 
+  -- no other lane was asked for the job of the outcome at a place
+  alone_at : (r : Ready) (k : ℕ) (o : Outcome) (m : ℕ) (l : L) (j : Job) → k < length jobs → get_or sorted k o ≡ o → slice_get lanes m ≡ Some l → m ≢ o.lane → tells.asked l (get_or jobs k j) ≡ []
+  alone_at r k o m l j lk here at ne = ⊎_elim
+      (λ (none : tells.asked l (get_or jobs k j) ≡ []). none)
+      (λ (one : (p : Outcome) × Contains all p × (p.job ≡ (get_or jobs k j).number) × (p.lane ≡ m)).
+      let s = r.to one.0 one.1 in
+      let placed = at_place sorted 0 s.0 one.0 r.ordered s.1 in
+      let job : one.0.job ≡ 0 + s.0 + 1 = ap (λ (y : Outcome). y.job) (sym s.2) ∙ placed in
+      let n = r.are.numbered k j lk in
+      let b = one.2 in
+      let ik : s.0 ≡ k = omega arith in
+      let same : one.0 ≡ o = sym s.2 ∙ ap (λ i. get_or sorted i one.0) ik ∙ any_default sorted k one.0 o (subst (λ i. i < length sorted) ik s.1) ∙ here in
+      absurd (ne (sym one.3 ∙ ap (λ (y : Outcome). y.lane) same)))
+      (r.gathered.asked m l (get_or jobs k j) at (k, lk, any_default jobs k _ _ lk))
+
+  -- no lane was asked for a job that has no outcome
+  none_past : (r : Ready) (k : ℕ) (j : Job) → length sorted ≤ k → slice_get jobs k ≡ Some j → (m : ℕ) (l : L) → slice_get lanes m ≡ Some l → tells.asked l j ≡ []
+  none_past r k j past at m l here =
+      let lk = slice_get_within jobs k j at in
+      let is = get_or_from_slice_get jobs k j j at in
+      let n = r.are.numbered k j lk in
+      let number : j.number ≡ k + 1 = ap (λ (y : Job). y.number) (sym is) ∙ n in
+      ⊎_elim
+      (λ (none : tells.asked l j ≡ []). none)
+      (λ (one : (p : Outcome) × Contains all p × (p.job ≡ j.number) × (p.lane ≡ m)).
+      let s = r.to one.0 one.1 in
+      let placed = at_place sorted 0 s.0 one.0 r.ordered s.1 in
+      let job : one.0.job ≡ 0 + s.0 + 1 = ap (λ (y : Outcome). y.job) (sym s.2) ∙ placed in
+      let b = one.2 in
+      let lt = s.1 in
+      absurd (omega arith))
+      (r.gathered.asked m l j here (k, lk, is))
+
+  -- the jobs that have outcomes are those that were drawn
+  drawn_first : (r : Ready) → WereDrawn tells jobs lanes (length sorted)
+  drawn_first r = record {
+    finished = λ k j lt at. (let p = pick sorted k lt in
+        let here : get_or sorted k p.0 ≡ p.0 = get_or_from_slice_get sorted k p.0 p.0 p.1 in
+        let lj = slice_get_within jobs k j at in
+        let is = get_or_from_slice_get jobs k j j at in
+        let t = told_at r k p.0 j lt lj here in
+        record {
+          place = p.0.lane;
+          on = t.0;
+          lane = t.1;
+          outcome = p.0.end;
+          told = subst (λ (x : Job). EndsAs tells t.0 x p.0.end) is t.2;
+          alone = λ m l here_m ne. subst (λ (x : Job). tells.asked l x ≡ []) is (alone_at r k p.0 m l j lj here here_m ne);
+        });
+    none = λ k j past at m l lm. none_past r k j past at m (get_or lanes m l) (slice_get-get_or lanes m l lm);
+  }
+
   pub all_secured : (r : Ready) (rs : List Issued) → sorted ≡ map outcome_of rs → AreSecured tells jobs lanes rs
   all_secured r rs is = record { count = count; each = each; quiet = λ k l lk i j li. no_failure (get_or lanes k l) (get_or jobs i j) (k, lk, any_default lanes k _ _ lk) (i, li, any_default jobs i _ _ li) }
     where
@@ -104,20 +156,6 @@ module _ {L O : Type 0} (tells : Lore L O) (jobs : List Job) (lanes : List L) (a
       count : length rs ≡ length jobs
       count = let e = ap length is in let m = len_map rs in
           ⊎_elim (λ (l : length sorted ≡ length jobs). omega arith) (λ (bad : (o : Outcome) × Contains all o × IsErr o.end). absurd (no_err bad.0 bad.1 bad.2)) r.ended
-
-      alone : (k : ℕ) (rc : Issued) (m : ℕ) (l : L) (j : Job) → k < length jobs → get_or sorted k (outcome_of rc) ≡ outcome_of rc → slice_get lanes m ≡ Some l → m ≢ rc.lane → tells.asked l (get_or jobs k j) ≡ []
-      alone k rc m l j lk here at ne = ⊎_elim
-          (λ (none : tells.asked l (get_or jobs k j) ≡ []). none)
-          (λ (one : (o : Outcome) × Contains all o × (o.job ≡ (get_or jobs k j).number) × (o.lane ≡ m)).
-          let s = r.to one.0 one.1 in
-          let placed = at_place sorted 0 s.0 one.0 r.ordered s.1 in
-          let job : one.0.job ≡ 0 + s.0 + 1 = ap (λ (y : Outcome). y.job) (sym s.2) ∙ placed in
-          let n = r.are.numbered k j lk in
-          let b = one.2 in
-          let ik : s.0 ≡ k = omega arith in
-          let same : one.0 ≡ outcome_of rc = sym s.2 ∙ ap (λ i. get_or sorted i one.0) ik ∙ any_default sorted k one.0 (outcome_of rc) (subst (λ i. i < length sorted) ik s.1) ∙ here in
-          absurd (ne (sym one.3 ∙ ap (λ (y : Outcome). y.lane) same)))
-          (r.gathered.asked m l (get_or jobs k j) at (k, lk, any_default jobs k _ _ lk))
 
       each : (k : ℕ) (x : Issued) (j : Job) → k < length jobs → IsSecuredBy tells jobs lanes (get_or rs k x) (get_or jobs k j)
       each k x j lk =
@@ -130,7 +168,7 @@ module _ {L O : Type 0} (tells : Lore L O) (jobs : List Job) (lanes : List L) (a
           let at = at_place sorted 0 k o r.ordered ls in
           let n = r.are.numbered k j lk in
           let same : o.job ≡ 0 + k + 1 = ap (λ (y : Outcome). y.job) (sym here) ∙ at in
-          record { job = omega arith; on = t.0; lane = t.1; told = t.2.0; asked = t.2.2; alone = λ m l at ne. alone k rc m l j lk here at ne }
+          record { job = omega arith; on = t.0; lane = t.1; told = t.2.0; asked = t.2.2; alone = λ m l at ne. alone_at r k o m l j lk here at ne }
 
       no_failure : (l : L) (j : Job) → Contains lanes l → Contains jobs j → tells.failed l j ≡ None
       no_failure l j hl hj = ⊎_elim (λ (n : tells.failed l j ≡ None). n) (λ (e : (o : Outcome) × Contains all o × (o.job ≡ j.number) × IsErr o.end). absurd (no_err e.0 e.1 e.3)) (r.gathered.blame l j hl hj)
@@ -157,6 +195,9 @@ module _ {L O : Type 0} (tells : Lore L O) (jobs : List Job) (lanes : List L) (a
         cause = ap (tells.failed t.0) (sym (get_or_from_slice_get jobs place job.0 job.0 job.1)) ∙ t.2.0;
         asked = subst (λ (j : Job). Failed (tells.asked t.0 j)) (get_or_from_slice_get jobs place job.0 job.0 job.1) t.2.1;
         lower = lower;
+        drawn = length sorted;
+        among = ls;
+        first = drawn_first r;
       }
     where
       lower : (k : ℕ) (j : Job) → k < length f.before → slice_get jobs k ≡ Some j → Succeeded tells jobs lanes j

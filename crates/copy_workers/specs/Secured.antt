@@ -1,15 +1,16 @@
 -- What running jobs on lanes needs, and what it comes to.
-use Rattle.std.specs.Prelude.{◌≡◌, ◌≢◌, ◌⊎◌, ℕ, ◌+◌, ◌<◌, Some, None, List, [], length, take, slice_index_or, slice_get, Contains, All}
+use Rattle.std.specs.Prelude.{◌≡◌, ◌≢◌, ◌⊎◌, ℕ, ◌+◌, ◌<◌, ◌≤◌, Some, None, Result, List, [], length, take, slice_index_or, slice_get, Contains, All}
 use Rattle.image_ref.specs.Domain.{IsDomain}
 use Rattle.image_ref.specs.Reference.{IsPath}
 use Rattle.digest_reader.specs.declared.job.Job.{Job}
 use Rattle.location_cache.specs.declared.cache.CacheRow.{CacheRow}
+use Rattle.copy_workers.specs.declared.cause.Cause.{Cause}
 use Rattle.copy_workers.specs.declared.cause.Cause.TheVariants as cause
 use Rattle.copy_workers.specs.declared.receipt.How.{How}
 use Rattle.copy_workers.specs.declared.receipt.JobFault.{JobFault}
 use Rattle.copy_workers.specs.Receipts.{Issued}
 use Rattle.copy_workers.specs.Answers.{answers_of, Failed}
-use Rattle.copy_workers.specs.Lanes.{Lore, Calm}
+use Rattle.copy_workers.specs.Lanes.{Lore, Calm, EndsAs}
 use Rattle.copy_workers.specs.Kept.{KeepsAll}
 
 -- each row's host is a domain, and its repository a path
@@ -52,6 +53,20 @@ module _ {L O : Type 0} (tells : Lore L O) (jobs : List Job) where
       pub asked : tells.asked on j ≡ answers_of how
       pub quiet : All (λ l. tells.failed l j ≡ None) lanes
 
+    -- the job was finished on a lane, which tells how; no other lane was asked for it
+    pub record WasDrawn (j : Job) : Type 0 where
+      pub place : ℕ
+      pub on : L
+      pub lane : slice_get lanes place ≡ Some on
+      pub outcome : Result How Cause
+      pub told : EndsAs tells on j outcome
+      pub alone : (m : ℕ) (l : L) → slice_get lanes m ≡ Some l → m ≢ place → tells.asked l j ≡ []
+
+    -- the jobs up to this number were drawn: each of them was finished, and for no other was any lane asked
+    pub record WereDrawn (drawn : ℕ) : Type 0 where
+      pub finished : (k : ℕ) (j : Job) → k < drawn → slice_get jobs k ≡ Some j → WasDrawn j
+      pub none : (k : ℕ) (j : Job) → drawn ≤ k → slice_get jobs k ≡ Some j → All (λ l. tells.asked l j ≡ []) lanes
+
     -- a lane tells this cause of the job, and every lower job succeeded
     pub record IsLeastFault (fault : JobFault) : Type 0 where
       pub place : ℕ
@@ -63,6 +78,9 @@ module _ {L O : Type 0} (tells : Lore L O) (jobs : List Job) where
       pub cause : tells.failed on job ≡ Some fault.cause
       pub asked : Failed (tells.asked on job)
       pub lower : (k : ℕ) (j : Job) → k < place → slice_get jobs k ≡ Some j → Succeeded j
+      pub drawn : ℕ
+      pub among : place < drawn
+      pub first : WereDrawn drawn
 
   -- the fault is that of the least job that failed; or it is of job 0, want of memory, and no lane was used
   abbrev pub IsJobFault : List L → List L → JobFault → Type 0

@@ -1,5 +1,5 @@
 -- A refusal of the source, the gate or the destination comes before anything is touched.
-use Rattle.std.proofs.Common.{◌≡◌, ◌∙◌, ◌<◌, true, false, ℕ, zero, suc, List, [], ◌∷◌, Some, None, Result, Ok, Err, length, slice_get, inl, inr, refl, sym, subst, arith}
+use Rattle.std.proofs.Common.{◌≡◌, ◌∙◌, ◌<◌, true, false, ℕ, List, [], ◌∷◌, None, Result, Ok, Err, length, inl, inr, refl, sym, subst, arith}
 use Rattle.std.specs.Bool.{⊤}
 use Rattle.skopeo_outside.specs.LaneTold.{LaneTold}
 use Rattle.skopeo_outside.specs.LaneLaws.{each_then}
@@ -34,6 +34,7 @@ use Rattle.copy_engine.specs.Walk.{securing, readying, placing, image_end}
 use Rattle.copy_engine.proofs.SameLemmas.{untouched_each}
 use Rattle.skopeo_app.specs.declared.refusal.CommandRefusal.TheVariants.{Image}
 use Rattle.skopeo_app.specs.Refusals.{is_ahead}
+use Rattle.skopeo_app.proofs.ByTreeLemmas.{first_each}
 
 -- ---- steps of a lane that touch nothing
 
@@ -71,16 +72,7 @@ rests_admission plan policy =
 -- ---- the first lane alone
 
 first_untouched : (x y : List LaneTold) → OnFirst (λ a b. IsUntouched a b) x y → KeepsFrom 1 x y → OnEach (λ place a b. IsUntouched a b) x y
-first_untouched x y first kept = record { count = kept.same; each = each x y first kept }
-  where
-    some_same : (t u : LaneTold) → Some t ≡ Some u → t ≡ u
-    some_same t u e = cc
-
-    each : (x y : List LaneTold) → OnFirst (λ a b. IsUntouched a b) x y → KeepsFrom 1 x y → (place : ℕ) (a b : LaneTold) → slice_get x place ≡ Some a → slice_get y place ≡ Some b → IsUntouched a b
-    each [] y first kept place a b ea eb = let no : None ≡ Some a = ea in cc
-    each (s ∷ x) [] first kept place a b ea eb = absurd first
-    each (s ∷ x) (t ∷ y) first kept zero a b ea eb = subst (λ v. IsUntouched v b) (some_same s a ea) (subst (IsUntouched s) (some_same t b eb) first)
-    each (s ∷ x) (t ∷ y) first kept (suc place) a b ea eb = subst (IsUntouched a) (some_same a b (sym ea ∙ sym (kept.rest (suc place) (omega arith)) ∙ eb)) (untouched_same a)
+first_untouched x y first kept = first_each IsUntouched untouched_same x y first kept
 
 on_each : {A : Type 0} (step : LaneStep Refusal A) (x y : Seen) (r : Result A Refusal) → ((a b : LaneTold) → Ends lane_course step a b r → IsUntouched a b) → on_first lane_course step x y r → OnEach (λ place a b. IsUntouched a b) x.lanes y.lanes
 unfolding on_first

@@ -1,16 +1,588 @@
--- Where memory did not want, the command ended as its steps do.
-use Rattle.std.proofs.Common.{◌≡◌, Bool, true, false, List, ℕ, Result, Ok, Err, refl, ◌∙◌}
-use Rattle.skopeo_outside.specs.Steps.{Ends, EndsBy}
+-- A copy between two folders ends as one tree says.
+use Rattle.std.proofs.Common.{◌≡◌, ◌≢◌, ◌∙◌, ◌<◌, ◌⊎◌, Bool, true, false, cond, ℕ, zero, suc, List, [], ◌∷◌, Option, Some, None, Result, Ok, Err, IfSome, length, take, slice_get, inl, inr, refl, sym, ap, subst, arith}
+use Rattle.std.specs.Bool.{⊤}
+use Rattle.skopeo_outside.specs.Tree.{Tree, file_at}
+use Rattle.skopeo_outside.specs.Outside.{Rose, Told}
+use Rattle.skopeo_outside.specs.LaneTold.{LaneTold, IsLater}
+use Rattle.skopeo_outside.specs.Seen.{Seen, OnFirst, OnEach, KeepsFrom}
+use Rattle.skopeo_outside.specs.Steps.{Then, goes, stops, ◌>>=◌, given, Ends, EndsBy}
+use Rattle.skopeo_outside.specs.OnLanes.{LaneStep, SeenStep, on_first}
+use Rattle.skopeo_outside.specs.declared.words.Fetched.{Fetched}
+use Rattle.image_ref.specs.declared.place.Place.{Place}
+use Rattle.image_ref.specs.declared.place.Place.TheVariants.{Dir}
+use Rattle.digest_reader.specs.declared.job.Job.{Job}
+use Rattle.layouts.specs.Bounds.{limited}
+use Rattle.layouts.specs.Destination.{MayReplace}
+use Rattle.layouts.specs.Names.{manifest_name, prefix_of}
+use Rattle.layouts.specs.Paths.{blob_path}
+use Rattle.layouts.specs.Source.{numbered, signatures_in}
+use Rattle.layouts.proofs.NameLemmas.{blob_in}
+use Rattle.skopeo_outside.specs.Folders.{joined}
+use Rattle.manifest_v2s2.specs.declared.image.Image.{Image as ImageRead}
+use Rattle.manifest_v2s2.specs.declared.kind.Kind.{Kind}
+use Rattle.copy_workers.specs.declared.cause.Cause.{Cause}
+use Rattle.copy_workers.specs.declared.cause.BlobMismatch.{BlobMismatch}
+use Rattle.copy_workers.specs.declared.cause.Cause.TheVariants as cause
+use Rattle.policy_file.specs.PolicyLists.{PolicyLists}
+use Rattle.transports.specs.declared.source.Source.{Source}
+use Rattle.transports.specs.declared.source.Source.TheVariants as source
+use Rattle.transports.specs.declared.dest.Dest.{Dest}
+use Rattle.transports.specs.declared.dest.Dest.TheVariants as dest
+use Rattle.transports.specs.declared.plan.CopyPlan.{CopyPlan}
+use Rattle.transports.specs.declared.report.Copied.{Copied}
+use Rattle.transports.specs.declared.refusal.Refusal.{Refusal}
 use Rattle.transports.specs.declared.refusal.Refusal.TheVariants as image
+use Rattle.transports.specs.Refusals as of
+use Rattle.transports.specs.Places.{AreApart, source_at, dest_at}
+use Rattle.transports.specs.Courses.{lane_course}
+use Rattle.transports.specs.Blobs.{looked_at, is_whole, limit_of, mismatch_of}
+use Rattle.transports.specs.Given.{ManifestEnds, SignaturesEnd, BlobEnds, Spares, SameIn, manifest_in, by_folder}
+use Rattle.transports.specs.Has.{MayTake, MayNotTake}
+use Rattle.transports.specs.StepEnds.{reading, taking, putting, FailsBy, FailsFreely}
+use Rattle.transports.specs.Fair.{Works}
+use Rattle.transports.proofs.GivenLemmas.{only_spares}
+use Rattle.transports.proofs.WorkLemmas.{works_only}
+use Rattle.admission.specs.declared.found.Found.{Found}
+use Rattle.admission.specs.declared.take.Taken.{Taken}
+use Rattle.admission.specs.Parts.{kind_in, image_in}
+use Rattle.admission.specs.Admission.{Admission, admitted_of}
+use Rattle.admission.specs.Walk.{found, admission}
+use Rattle.copy_jobs.specs.Secured.{JobsEnd, IsLeast, SameBlobs, first_fault}
+use Rattle.copy_jobs.proofs.EndLemmas.{TellsBlobs, TellBlobs, ends_at, done_no_fault, least_is_fault}
+use Rattle.copy_engine.specs.Report.{copied_of}
+use Rattle.copy_engine.specs.Walk.{securing, readying, placing, image_end}
+use Rattle.copy_engine.proofs.ReadyLemmas.{all_later}
 use Rattle.skopeo_app.specs.declared.refusal.CommandRefusal.{CommandRefusal}
 use Rattle.skopeo_app.specs.declared.refusal.CommandRefusal.TheVariants.{Words, Reference, SamePlace, NotBuilt, PolicyMissing, PolicyInvalid, PolicyTooLarge, Image, Output}
 use Rattle.skopeo_app.specs.declared.run.Done.{Done}
+use Rattle.skopeo_app.specs.declared.task.CopyTask.{CopyTask}
+use Rattle.skopeo_app.specs.declared.task.PolicyChoice.{PolicyChoice}
+use Rattle.skopeo_app.specs.declared.task.PolicyChoice.TheVariants.{Anything, Named, Usual}
+use Rattle.skopeo_app.specs.declared.task.Task.{Task}
+use Rattle.skopeo_app.specs.declared.task.Task.TheVariants.{Copy}
 use Rattle.skopeo_app.specs.Sinks.{SinkTold}
-use Rattle.skopeo_app.specs.Refusals.{is_memory}
-use Rattle.skopeo_app.specs.Courses.{CommandTold, command_course}
+use Rattle.skopeo_app.specs.Refusals.{is_memory, is_free, Shows, IsOfOutput, BlamesOutput}
+use Rattle.skopeo_app.specs.Courses as app
+use Rattle.skopeo_app.specs.Courses.{CommandTold, seen_course, command_course}
+use Rattle.skopeo_app.specs.Policy.{policy_end, policy_file, usual_path}
+use Rattle.skopeo_app.specs.Task.{task_of}
+use Rattle.skopeo_app.specs.Headline.{first_tree}
 use Rattle.skopeo_app.specs.Lines.{status_of}
-use Rattle.skopeo_app.specs.Ending.{ending}
+use Rattle.skopeo_app.specs.Ending.{copy_done, of_image, image_of_task, on_lanes, printing, copy_end, task_end, ending}
 use Rattle.skopeo_app.specs.Answer.{CommandEnds}
+use Rattle.skopeo_app.specs.ByTree.{and_then, policy_at, manifest_of, signatures_of, admitted_in, placed_in, copy_in, or_image, answer_in}
+use Rattle.skopeo_app.specs.Complete.{StartsWith, AllStart, IsFolderCopy, Judges, IsCalm, AreCalm, EndsByTree, IsGood, GoodEnds}
+use Rattle.skopeo_app.proofs.ByTreeLemmas.{wants, Comes, value_is, comes_as, flat, refused_as, Tells, told, Equals, equal_then, given_as, Goes, goes_then, goes_given, goes_first, Calm, comes_then, comes_given, given_same, some_lane, first_tells, first_comes, first_still}
+
+some_same : {A : Type 0} (t u : A) → Some t ≡ Some u → t ≡ u
+some_same t u e = cc
+
+-- ---- source and gate, by the tree
+
+abbrev found_of : Source → Fetched → Found
+found_of from fetched = record { from = from; fetched = fetched }
+
+abbrev taken_of : Source → Admission → Taken
+taken_of from image = record { from = from; image = image }
+
+manifest_equals : (tree : Tree) (folder : List ℕ) → Equals tree (reading (ManifestEnds (source.Folder folder) None)) (manifest_of tree folder)
+unfolding ManifestEnds
+manifest_equals tree folder a b r end tells = (told tree (λ t. r ≡ manifest_of t folder) a.files.tree tells end.0, end.1.files ∙ tells)
+
+signatures_equal : (tree : Tree) (folder : List ℕ) → Equals tree (reading (SignaturesEnd (source.Folder folder) None)) (signatures_of tree folder)
+unfolding SignaturesEnd
+signatures_equal tree folder a b r end tells = (told tree (λ t. r ≡ signatures_of t folder) a.files.tree tells end.0, end.1.files ∙ tells)
+
+ok_same : {A E : Type 0} (x y : A) → ◌≡◌ {A = Result A E} (Ok x) (Ok y) → x ≡ y
+ok_same x y e = cc
+
+found_equals : (tree : Tree) (folder : List ℕ) (place : Place) → place ≡ Dir folder → Equals tree (found place) (and_then (manifest_of tree folder) (λ fetched. Ok (found_of (source.Folder folder) fetched)))
+unfolding found
+found_equals tree folder place is =
+    equal_then tree (given (source_at place)) (λ from. reading (ManifestEnds from None) >>= (λ fetched. given (Ok (found_of from fetched))))
+    (Ok (source.Folder folder)) (λ u. and_then u (λ from. and_then (manifest_of tree folder) (λ fetched. Ok (found_of from fetched)))) (λ e. refl)
+    (given_as tree (source_at place) (Ok (source.Folder folder)) (ap source_at is))
+    (λ from e. subst (λ s. Equals {E = Refusal} tree (reading (ManifestEnds s None) >>= (λ fetched. given (Ok (found_of s fetched)))) (and_then (manifest_of tree folder) (λ fetched. Ok (found_of s fetched))))
+    (sym (ok_same {E = Refusal} from (source.Folder folder) e)) rest)
+  where
+    rest : Equals tree (reading (ManifestEnds (source.Folder folder) None) >>= (λ fetched. given (Ok (found_of (source.Folder folder) fetched)))) (and_then (manifest_of tree folder) (λ fetched. Ok (found_of (source.Folder folder) fetched)))
+    rest = equal_then tree (reading (ManifestEnds (source.Folder folder) None)) (λ fetched. given (Ok (found_of (source.Folder folder) fetched)))
+        (manifest_of tree folder) (λ u. and_then u (λ fetched. Ok (found_of (source.Folder folder) fetched))) (λ e. refl) (manifest_equals tree folder)
+        (λ fetched e. given_as tree (Ok (found_of (source.Folder folder) fetched)) (Ok (found_of (source.Folder folder) fetched)) refl)
+
+-- the source of what was found
+from_found : (folder : List ℕ) (m : Result Fetched Refusal) (it : Found) → Ok it ≡ and_then m (λ fetched. Ok (found_of (source.Folder folder) fetched)) → it.from ≡ source.Folder folder
+from_found folder (Ok fetched) it e = ap (λ (f : Found). f.from) (ok_same {E = Refusal} it (found_of (source.Folder folder) fetched) e)
+from_found folder (Err d) it e = let no : ◌≡◌ {A = Result Found Refusal} (Ok it) (Err d) = e in cc
+
+-- the steps behind the manifest
+abbrev signed : Tree → List ℕ → PolicyLists → Fetched → Kind → ImageRead → Result Admission Refusal
+signed tree folder policy fetched kind image = and_then (signatures_of tree folder) (λ signatures. admitted_of policy (Dir folder) fetched kind image signatures)
+
+abbrev imaged : Tree → List ℕ → PolicyLists → Fetched → Kind → Result Admission Refusal
+imaged tree folder policy fetched kind = and_then (image_in kind fetched) (λ image. signed tree folder policy fetched kind image)
+
+abbrev judged : Tree → List ℕ → PolicyLists → Fetched → Result Admission Refusal
+judged tree folder policy fetched = and_then (kind_in fetched) (λ kind. imaged tree folder policy fetched kind)
+
+abbrev take_it : List ℕ → Result Admission Refusal → Result Taken Refusal
+take_it folder w = and_then w (λ image. Ok (taken_of (source.Folder folder) image))
+
+admission_equals : (tree : Tree) (folder : List ℕ) (plan : CopyPlan) (policy : PolicyLists) → plan.source ≡ Dir folder → Equals tree (admission plan policy) (take_it folder (admitted_in tree folder policy))
+unfolding admission admitted_in
+admission_equals tree folder plan policy is a b r end tells =
+    let got = walk a b r end tells in
+    (got.0 ∙ flatten (manifest_of tree folder), got.1)
+  where
+    flatten : (m : Result Fetched Refusal) → take_it folder (and_then (and_then m (λ fetched. Ok (found_of (source.Folder folder) fetched))) (λ (it : Found). judged tree folder policy it.fetched)) ≡ take_it folder (and_then m (λ fetched. judged tree folder policy fetched))
+    flatten (Ok fetched) = refl
+    flatten (Err e) = refl
+
+    last : (it : Found) (kind : Kind) (image : ImageRead) (signatures : List (List ℕ)) → it.from ≡ source.Folder folder
+        → Equals tree (given (admitted_of policy plan.source it.fetched kind image signatures) >>= (λ admitted. given (Ok (taken_of it.from admitted)))) (take_it folder (admitted_of policy (Dir folder) it.fetched kind image signatures))
+    last it kind image signatures from =
+        equal_then tree (given (admitted_of policy plan.source it.fetched kind image signatures)) (λ admitted. given (Ok (taken_of it.from admitted)))
+        (admitted_of policy (Dir folder) it.fetched kind image signatures) (λ u. take_it folder u) (λ e. refl)
+        (given_as tree (admitted_of policy plan.source it.fetched kind image signatures) (admitted_of policy (Dir folder) it.fetched kind image signatures) (ap (λ p. admitted_of policy p it.fetched kind image signatures) is))
+        (λ admitted e. given_as tree (Ok (taken_of it.from admitted)) (Ok (taken_of (source.Folder folder) admitted)) (ap (λ s. Ok (taken_of s admitted)) from))
+
+    read : (it : Found) → it.from ≡ source.Folder folder → Equals tree (reading (SignaturesEnd it.from None)) (signatures_of tree folder)
+    read it from = subst (λ s. Equals tree (reading (SignaturesEnd s None)) (signatures_of tree folder)) (sym from) (signatures_equal tree folder)
+
+    rest : (it : Found) → it.from ≡ source.Folder folder → Equals tree (given (kind_in it.fetched) >>= (λ kind. given (image_in kind it.fetched) >>= (λ image. reading (SignaturesEnd it.from None) >>= (λ signatures. given (admitted_of policy plan.source it.fetched kind image signatures) >>= (λ admitted. given (Ok (taken_of it.from admitted)))))))
+        (take_it folder (judged tree folder policy it.fetched))
+    rest it from =
+        equal_then tree (given (kind_in it.fetched)) _ (kind_in it.fetched) (λ u. take_it folder (and_then u (λ kind. imaged tree folder policy it.fetched kind))) (λ e. refl)
+        (given_as tree (kind_in it.fetched) (kind_in it.fetched) refl)
+        (λ kind k. equal_then tree (given (image_in kind it.fetched)) _ (image_in kind it.fetched) (λ u. take_it folder (and_then u (λ image. signed tree folder policy it.fetched kind image))) (λ e. refl)
+        (given_as tree (image_in kind it.fetched) (image_in kind it.fetched) refl)
+        (λ image i. equal_then tree (reading (SignaturesEnd it.from None)) _ (signatures_of tree folder) (λ u. take_it folder (and_then u (λ signatures. admitted_of policy (Dir folder) it.fetched kind image signatures))) (λ e. refl)
+        (read it from)
+        (λ signatures s. last it kind image signatures from)))
+
+    walk : Equals tree (admission plan policy) (take_it folder (and_then (and_then (manifest_of tree folder) (λ fetched. Ok (found_of (source.Folder folder) fetched))) (λ (it : Found). judged tree folder policy it.fetched)))
+    walk = equal_then tree (found plan.source) _ (and_then (manifest_of tree folder) (λ fetched. Ok (found_of (source.Folder folder) fetched)))
+        (λ u. take_it folder (and_then u (λ (it : Found). judged tree folder policy it.fetched))) (λ e. refl)
+        (found_equals tree folder plan.source is)
+        (λ it e. rest it (from_found folder (manifest_of tree folder) it e))
+
+-- the source of what was admitted
+from_taken : (folder : List ℕ) (m : Result Admission Refusal) (it : Taken) → Ok it ≡ take_it folder m → it.from ≡ source.Folder folder
+from_taken folder (Ok image) it e = ap (λ (t : Taken). t.from) (ok_same {E = Refusal} it (taken_of (source.Folder folder) image) e)
+from_taken folder (Err d) it e = let no : ◌≡◌ {A = Result Taken Refusal} (Ok it) (Err d) = e in cc
+
+-- ---- a step on one lane
+
+free_comes : {A : Type 0} (e : Refusal) (w : Result A Refusal) (a b : LaneTold) → IsCalm a b → of.is_free e ≡ true → of.Shows e a b → Comes of.is_memory (Err e) w
+free_comes image.Memory w a b calm is shows = inl refl
+free_comes (image.Files count) w a b calm is shows = absurd (calm.files shows.rose)
+free_comes (image.Wire count) w a b calm is (inl f) = absurd (calm.from f.rose)
+free_comes (image.Wire count) w a b calm is (inr f) = absurd (calm.to f.rose)
+free_comes (image.Job number reason) w a b calm is shows = let no : false ≡ true = is in cc
+free_comes (image.NotBuilt p) w a b calm is shows = let no : false ≡ true = is in cc
+free_comes (image.NotAnImageDir p) w a b calm is shows = let no : false ≡ true = is in cc
+free_comes (image.TooLarge q n) w a b calm is shows = let no : false ≡ true = is in cc
+free_comes (image.ManifestInvalid m) w a b calm is shows = let no : false ≡ true = is in cc
+free_comes (image.Rejected s p y) w a b calm is shows = let no : false ≡ true = is in cc
+
+lane_comes : {A : Type 0} (step : LaneStep Refusal A) (w : Result A Refusal) (a b : LaneTold) (r : Result A Refusal) → IsCalm a b → Ends lane_course step a b r → ((s : Result A Refusal) → step a b s → s ≡ w) → Comes of.is_memory r w
+unfolding Ends lane_course
+lane_comes step w a b (Ok v) calm end is = inr (is (Ok v) end.ends)
+lane_comes {A} step w a b (Err e) calm end is = by (of.is_free e) refl end.ends
+  where
+    by : (f : Bool) → of.is_free e ≡ f → EndsBy {A = A} f lane_course e step a b → Comes of.is_memory (Err e) w
+    by true free shows = free_comes e w a b calm free shows
+    by false free ends = inr (is (Err e) ends)
+
+lane_value : {A : Type 0} (step : LaneStep Refusal A) (a b : LaneTold) (v : A) → Ends lane_course step a b (Ok v) → step a b (Ok v)
+unfolding Ends
+lane_value step a b v end = end.ends
+
+lane_later : {A : Type 0} (step : LaneStep Refusal A) (a b : LaneTold) (r : Result A Refusal) → Ends lane_course step a b r → IsLater a b
+unfolding Ends lane_course
+lane_later step a b r end = end.later
+
+goes_on : {A : Type 0} (step : LaneStep Refusal A) → Goes (on_first lane_course step)
+goes_on step = goes_first lane_course step (lane_later step)
+
+-- ---- each step goes on
+
+goes_securing : (from : Source) (to : Dest) (jobs : List Job) → Goes (securing from to jobs)
+unfolding securing
+goes_securing from to jobs x y r end = all_later to x.lanes y.lanes end.1
+
+goes_readying : (from : Source) (to : Dest) (jobs : List Job) → Goes (readying from to jobs)
+unfolding readying
+goes_readying from to jobs = goes_then (on_first lane_course (taking to)) (λ _. securing from to jobs) (goes_on (taking to)) (λ v. goes_securing from to jobs)
+
+goes_putting : (to : Dest) (copied : Copied) → Goes (on_first lane_course (putting to) >>= (λ _. given {E = Refusal} (Ok copied)))
+goes_putting to copied = goes_then (on_first lane_course (putting to)) (λ _. given (Ok copied)) (goes_on (putting to)) (λ v. goes_given (Ok copied))
+
+goes_placing : (from : Source) (to : Dest) (it : Admission) → Goes (placing from to it)
+unfolding placing
+goes_placing from to it = goes_then (readying from to it.jobs) (λ _. on_first lane_course (putting to) >>= (λ _. given (Ok (copied_of it)))) (goes_readying from to it.jobs) (λ v. goes_putting to (copied_of it))
+
+goes_image : (plan : CopyPlan) (policy : PolicyLists) → Goes (image_end plan policy)
+unfolding image_end
+goes_image plan policy = goes_then (given (dest_at plan.dest)) (λ to. on_first lane_course (admission plan policy) >>= (λ it. placing it.from to it.image)) (goes_given (dest_at plan.dest))
+    (λ to. goes_then (on_first lane_course (admission plan policy)) (λ it. placing it.from to it.image) (goes_on (admission plan policy)) (λ it. goes_placing it.from to it.image))
+
+-- ---- the same in the command's course
+
+memory_image : {A : Type 0} (i : Refusal) (w : Result A CommandRefusal) → Comes {A = ⊤} of.is_memory (Err i) (Ok tt) → Comes {A = A} is_memory (Err (Image i)) w
+memory_image i w (inl m) = inl m
+memory_image i w (inr bad) = let n : ◌≡◌ {A = Result ⊤ Refusal} (Err i) (Ok tt) = bad in cc
+
+app_comes : {A : Type 0} (step : LaneStep CommandRefusal A) (w : Result A CommandRefusal) (a b : LaneTold) (r : Result A CommandRefusal) → IsCalm a b → Ends app.lane_course step a b r → ((s : Result A CommandRefusal) → step a b s → s ≡ w) → Comes is_memory r w
+unfolding Ends app.lane_course
+app_comes step w a b (Ok v) calm end is = inr (is (Ok v) end.ends)
+app_comes {A} step w a b (Err e) calm end is = by (is_free e) refl end.ends
+  where
+    of_image_free : (e : CommandRefusal) → is_free e ≡ true → Shows e a b → Comes {A = A} is_memory (Err e) w
+    of_image_free (Image i) free shows = memory_image i w (free_comes {A = ⊤} i (Ok tt) a b calm free shows)
+    of_image_free (Words p k) free shows = let no : false ≡ true = free in cc
+    of_image_free (Reference t f) free shows = let no : false ≡ true = free in cc
+    of_image_free (SamePlace p) free shows = let no : false ≡ true = free in cc
+    of_image_free (NotBuilt p) free shows = let no : false ≡ true = free in cc
+    of_image_free (PolicyMissing p) free shows = let no : false ≡ true = free in cc
+    of_image_free (PolicyInvalid p k m) free shows = let no : false ≡ true = free in cc
+    of_image_free PolicyTooLarge free shows = let no : false ≡ true = free in cc
+    of_image_free (Output n) free shows = let no : false ≡ true = free in cc
+
+    by : (f : Bool) → is_free e ≡ f → EndsBy {A = A} f app.lane_course e step a b → Comes is_memory (Err e) w
+    by true free shows = of_image_free e free shows
+    by false free ends = inr (is (Err e) ends)
+
+app_value : {A : Type 0} (step : LaneStep CommandRefusal A) (a b : LaneTold) (v : A) → Ends app.lane_course step a b (Ok v) → step a b (Ok v)
+unfolding Ends
+app_value step a b v end = end.ends
+
+app_later : {A : Type 0} (step : LaneStep CommandRefusal A) (a b : LaneTold) (r : Result A CommandRefusal) → Ends app.lane_course step a b r → IsLater a b
+unfolding Ends app.lane_course
+app_later step a b r end = end.later
+
+-- ---- the lanes ahead of the first change, and behind the destination's
+
+-- the first lane tells the tree, and all start with its blobs
+record Begins (folder : List ℕ) (tree : Tree) (x : Seen) : Type 0 where
+  pub first : first_tree x.lanes ≡ Some tree
+  pub same : AllStart folder tree x
+
+begins_still : (folder : List ℕ) (tree : Tree) (x y : Seen) → Begins folder tree x → KeepsFrom 1 x.lanes y.lanes → first_tree y.lanes ≡ Some tree → Begins folder tree y
+begins_still folder tree x y begins kept first = record { first = first; same = same }
+  where
+    same : AllStart folder tree y
+    same zero lane at = record { files = tree; told = first_tells tree y.lanes lane first at; same = λ digest. refl }
+    same (suc place) lane at = begins.same (suc place) lane (sym (kept.rest (suc place) (omega arith)) ∙ at)
+
+first_kept : {A : Type 0} (step : LaneStep Refusal A) (x y : Seen) (r : Result A Refusal) → on_first lane_course step x y r → KeepsFrom 1 x.lanes y.lanes
+unfolding on_first
+first_kept step x y r end = end.1
+
+starts_works : (folder target : List ℕ) (tree : Tree) (a b : LaneTold) → folder ≢ target → StartsWith folder tree a → Works (dest.Folder target) a b → StartsWith folder tree b
+unfolding Spares AreApart
+starts_works folder target tree a b apart starts works = by b.files.tree refl (subst (λ v. Told (SameIn folder) v b.files.tree) starts.told (only_spares (source.Folder folder) (dest.Folder target) a b apart (works_only (dest.Folder target) a b works)))
+  where
+    by : (y : Option Tree) → b.files.tree ≡ y → Told (SameIn folder) (Some starts.files) y → StartsWith folder tree b
+    by None e r = absurd r
+    by (Some u) e r = record { files = u; told = e; same = λ digest. r (blob_path folder digest) (blob_in folder digest) ∙ starts.same digest }
+
+no_lane : (m : List LaneTold) (lane : LaneTold) → length m ≡ 0 → slice_get m 0 ≡ Some lane → ⊥
+no_lane [] lane none at = let n : None ≡ Some lane = at in cc
+no_lane (b ∷ m) lane none at = omega (arith, none)
+
+starts_taken : (folder target : List ℕ) (tree : Tree) (x m : Seen) (v : ⊤) → folder ≢ target → Begins folder tree x → on_first lane_course (taking (dest.Folder target)) x m (Ok v) → AllStart folder tree m
+unfolding on_first taking Ends
+starts_taken folder target tree x m v apart begins end = by x.lanes m.lanes begins.same end.0 end.1
+  where
+    by : (x m : List LaneTold) → ((place : ℕ) (lane : LaneTold) → slice_get x place ≡ Some lane → StartsWith folder tree lane) → OnFirst (λ a b. Ends lane_course (taking (dest.Folder target)) a b (Ok v)) x m → KeepsFrom 1 x m
+        → (place : ℕ) (lane : LaneTold) → slice_get m place ≡ Some lane → StartsWith folder tree lane
+    by [] m same first kept zero lane at = absurd (no_lane m lane kept.same at)
+    by (a ∷ x) [] same first kept zero lane at = absurd first
+    by (a ∷ x) (b ∷ m) same first kept zero lane at = subst (StartsWith folder tree) (some_same b lane at) (starts_works folder target tree a b apart (same 0 a refl) first.ends.1)
+    by x m same first kept (suc place) lane at = same (suc place) lane (sym (kept.rest (suc place) (omega arith)) ∙ at)
+
+-- ---- the destination and the jobs
+
+taking_is : (tree : Tree) (target : List ℕ) (taken : Result ⊤ Refusal) → Judges tree target taken → (a b : LaneTold) (r : Result ⊤ Refusal) → Tells tree a → taking (dest.Folder target) a b r → r ≡ taken
+unfolding taking MayTake MayNotTake
+taking_is tree target (Ok d) judges a b (Ok v) tells end = refl
+taking_is tree target (Ok d) judges a b (Err e) tells end = absurd (told tree (λ t. MayReplace t target → ⊥) a.files.tree tells end.1 judges)
+taking_is tree target (Err f) judges a b (Ok v) tells end = absurd (judges.1 (told tree (λ t. MayReplace t target) a.files.tree tells end.0))
+taking_is tree target (Err f) judges a b (Err e) tells end = ap Err (end.0 ∙ sym judges.0)
+
+tells_blobs : (folder : List ℕ) (jobs : List Job) (tree : Tree) (lane : LaneTold) → StartsWith folder tree lane → TellsBlobs folder jobs tree lane
+unfolding SameBlobs
+tells_blobs folder jobs tree lane starts = record {
+  files = starts.files;
+  told = starts.told;
+  same = subst (λ v. IfSome v (λ t. (k : ℕ) (job : Job) → slice_get jobs k ≡ Some job → file_at t (blob_path folder job.digest) ≡ file_at tree (blob_path folder job.digest))) (sym starts.told) (λ k job at. starts.same job.digest);
+}
+
+-- the cause of a reading is none that may come at any step
+abbrev free_of : Result (List ℕ) Cause → Bool
+free_of (Ok bytes) = false
+free_of (Err c) = of.is_free_cause c
+
+judged_bound : (b : Bool) (bytes : List ℕ) (m : BlobMismatch) → free_of (cond b (Ok bytes) (Err (cause.BlobMismatch m))) ≡ false
+judged_bound true bytes m = refl
+judged_bound false bytes m = refl
+
+bound_of : (job : Job) (x : Option (List ℕ)) (c : Cause) → looked_at job x ≡ Err c → of.is_free_cause c ≡ false
+bound_of job None c is = ap free_of (sym is)
+bound_of job (Some all) c is = ap free_of (sym is) ∙ judged_bound (is_whole job (take (limit_of job) all)) (take (limit_of job) all) (mismatch_of job (take (limit_of job) all))
+
+by_bound : (number : ℕ) (c : Cause) → of.is_free_cause c ≡ false → of.by_cause number c ≡ image.Job number c
+by_bound number (cause.Files count) is = let no : true ≡ false = is in cc
+by_bound number (cause.Wire count) is = let no : true ≡ false = is in cc
+by_bound number (cause.TlsRequired host) is = refl
+by_bound number (cause.BlobMismatch m) is = refl
+by_bound number (cause.BlobAbsent digest) is = refl
+by_bound number (cause.DestRefused step code) is = refl
+by_bound number (cause.TooLarge what length) is = refl
+by_bound number (cause.BadAnswer step bytes) is = refl
+by_bound number (cause.SourceRefused step code) is = refl
+by_bound number (cause.Encoded step) is = refl
+by_bound number (cause.TooManyRedirects step) is = refl
+by_bound number cause.Memory is = let no : true ≡ false = is in cc
+
+memory_of : (number : ℕ) (c : Cause) (a b : LaneTold) → of.is_free_cause c ≡ true → IsCalm a b → of.Blames c a b → of.is_memory (of.by_cause number c) ≡ true
+memory_of number (cause.Files count) a b free calm shows = absurd (calm.files shows.rose)
+memory_of number (cause.Wire count) a b free calm (inl f) = absurd (calm.from f.rose)
+memory_of number (cause.Wire count) a b free calm (inr f) = absurd (calm.to f.rose)
+memory_of number (cause.TlsRequired host) a b free calm shows = let no : false ≡ true = free in cc
+memory_of number (cause.BlobMismatch m) a b free calm shows = let no : false ≡ true = free in cc
+memory_of number (cause.BlobAbsent digest) a b free calm shows = let no : false ≡ true = free in cc
+memory_of number (cause.DestRefused step code) a b free calm shows = let no : false ≡ true = free in cc
+memory_of number (cause.TooLarge what length) a b free calm shows = let no : false ≡ true = free in cc
+memory_of number (cause.BadAnswer step bytes) a b free calm shows = let no : false ≡ true = free in cc
+memory_of number (cause.SourceRefused step code) a b free calm shows = let no : false ≡ true = free in cc
+memory_of number (cause.Encoded step) a b free calm shows = let no : false ≡ true = free in cc
+memory_of number (cause.TooManyRedirects step) a b free calm shows = let no : false ≡ true = free in cc
+memory_of number cause.Memory a b free calm shows = refl
+
+module _ (tree : Tree) (folder target : List ℕ) (apart : folder ≢ target) (taken : Result ⊤ Refusal) (judges : Judges tree target taken) where
+  tell_blobs : (jobs : List Job) (x : Seen) → AllStart folder tree x → TellBlobs folder jobs tree x.lanes
+  tell_blobs jobs x starts place lane at = tells_blobs folder jobs tree lane (starts place lane at)
+
+  least_comes : (jobs : List Job) (x y : Seen) (e : Refusal) → AllStart folder tree x → Calm x y → IsLeast (source.Folder folder) (dest.Folder target) jobs x.lanes y.lanes e → Comes {A = ⊤} of.is_memory (Err e) (first_fault tree folder jobs)
+  least_comes jobs x y e starts calm l = by (of.is_free_cause l.cause) refl l.failed.holds
+    where
+      by : (f : Bool) → of.is_free_cause l.cause ≡ f → FailsBy (source.Folder folder) l.job l.cause l.failed.before l.failed.after → Comes {A = ⊤} of.is_memory (Err e) (first_fault tree folder jobs)
+      by false bound holds = inr (ap Err (l.is ∙ by_bound l.job.number l.cause bound) ∙ sym (least_is_fault tree folder target jobs x.lanes y.lanes e (tell_blobs jobs x starts) l bound))
+      by true free (inl f) = inl (ap of.is_memory l.is ∙ memory_of l.job.number l.cause l.failed.before l.failed.after free (calm.each l.failed.place l.failed.before l.failed.after l.failed.was l.failed.now) f.blames)
+      by true free (inr ends) =
+          let is = ends_at tree folder jobs l.place l.job l.failed.before l.failed.after (Err l.cause) (tell_blobs jobs x starts l.failed.place l.failed.before l.failed.was) l.at ends in
+          let no : true ≡ false = sym free ∙ bound_of l.job (file_at tree (blob_path folder l.job.digest)) l.cause (sym is) in
+          cc
+
+  jobs_come : (jobs : List Job) (x y : Seen) (r : Result ⊤ Refusal) → securing (source.Folder folder) (dest.Folder target) jobs x y r → AllStart folder tree x → Calm x y → Comes of.is_memory r (first_fault tree folder jobs)
+  unfolding securing
+  jobs_come jobs x y (Ok v) end starts calm = inr (sym (done_no_fault tree folder target jobs x.lanes y.lanes (tell_blobs jobs x starts) end.0))
+  jobs_come jobs x y (Err e) end starts calm = by end.0
+    where
+      by : JobsEnd {A = ⊤} (source.Folder folder) (dest.Folder target) jobs x.lanes y.lanes (Err e) → Comes {A = ⊤} of.is_memory (Err e) (first_fault tree folder jobs)
+      by (inl least) = least_comes jobs x y e starts calm least
+      by (inr memory) = inl (ap of.is_memory memory.0)
+
+  readying_comes : (jobs : List Job) (x y : Seen) (r : Result ⊤ Refusal) → readying (source.Folder folder) (dest.Folder target) jobs x y r → Begins folder tree x → Calm x y → Comes of.is_memory r (and_then taken (λ _. first_fault tree folder jobs))
+  unfolding readying
+  readying_comes jobs x y r end begins calm =
+      comes_then of.is_memory (on_first lane_course (taking (dest.Folder target))) (λ _. securing (source.Folder folder) (dest.Folder target) jobs) taken (λ u. and_then u (λ _. first_fault tree folder jobs))
+      (Begins folder tree) (AllStart folder tree) (λ e. refl) (goes_on (taking (dest.Folder target))) (λ v. goes_securing (source.Folder folder) (dest.Folder target) jobs)
+      (λ a m s one i c. first_comes of.is_memory lane_course (taking (dest.Folder target)) taken (lane_comes (taking (dest.Folder target)) taken) a m s (some_lane tree a.lanes i.first) c one (λ k l v at t. taking_is tree target taken judges k l v (first_tells tree a.lanes k i.first at) t))
+      (λ a m v one i. starts_taken folder target tree a m v apart i one)
+      (λ m b v s is two i c. jobs_come jobs m b s two i c)
+      x y r end begins calm
+
+  -- the signatures and the manifest
+  puts : (copied : Copied) (x y : Seen) (r : Result Copied Refusal) → (on_first lane_course (putting (dest.Folder target)) >>= (λ _. given {E = Refusal} (Ok copied))) x y r → 0 < length x.lanes → Calm x y → Comes of.is_memory r (Ok copied)
+  unfolding putting
+  puts copied x y r end some calm =
+      comes_then of.is_memory (on_first lane_course (putting (dest.Folder target))) (λ _. given (Ok copied)) (Ok tt) (λ u. and_then u (λ _. Ok copied))
+      (λ s. 0 < length s.lanes) (λ s. Unit {0}) (λ e. refl) (goes_on (putting (dest.Folder target))) (λ v. goes_given (Ok copied))
+      (λ a m s one i c. first_comes of.is_memory lane_course (putting (dest.Folder target)) (Ok tt) (lane_comes (putting (dest.Folder target)) (Ok tt)) a m s i c one (λ k l v at t. put k l v t))
+      (λ a m v one i. tt)
+      (λ m b v s is two i c. comes_given of.is_memory (Ok copied) (Ok copied) refl m b s two)
+      x y r end some calm
+    where
+      put : (a b : LaneTold) (r : Result ⊤ Refusal) → putting (dest.Folder target) a b r → r ≡ Ok tt
+      put a b (Ok v) end = refl
+      put a b (Err e) end = absurd end
+
+  placing_comes : (it : Admission) (x y : Seen) (r : Result Copied Refusal) → placing (source.Folder folder) (dest.Folder target) it x y r → Begins folder tree x → Calm x y → Comes of.is_memory r (placed_in tree folder taken it)
+  unfolding placing placed_in
+  placing_comes it x y r end begins calm =
+      comes_as of.is_memory r (and_then (and_then taken (λ _. first_fault tree folder it.jobs)) (λ _. Ok (copied_of it))) (and_then taken (λ _. and_then (first_fault tree folder it.jobs) (λ _. Ok (copied_of it))))
+      (comes_then of.is_memory (readying (source.Folder folder) (dest.Folder target) it.jobs) (λ _. on_first lane_course (putting (dest.Folder target)) >>= (λ _. given (Ok (copied_of it))))
+      (and_then taken (λ _. first_fault tree folder it.jobs)) (λ u. and_then u (λ _. Ok (copied_of it)))
+      (Begins folder tree) (λ s. 0 < length s.lanes) (λ e. refl) (goes_readying (source.Folder folder) (dest.Folder target) it.jobs) (λ v. goes_putting (dest.Folder target) (copied_of it))
+      (λ a m s one i c. readying_comes it.jobs a m s one i c)
+      (λ a m v one i. some_still a m (some_lane tree a.lanes i.first) (goes_readying (source.Folder folder) (dest.Folder target) it.jobs a m (Ok v) one))
+      (λ m b v s is two i c. puts (copied_of it) m b s two i c)
+      x y r end begins calm)
+      (flat taken (λ _. first_fault tree folder it.jobs) (λ _. Ok (copied_of it)))
+    where
+      some_still : (a m : Seen) → 0 < length a.lanes → OnEach (λ place a b. IsLater a b) a.lanes m.lanes → 0 < length m.lanes
+      some_still a m some later = let n = later.count in omega arith
+
+  -- ---- one image
+
+  abbrev copied : PolicyLists → Result Copied Refusal
+  copied policy = and_then (admitted_in tree folder policy) (λ it. placed_in tree folder taken it)
+
+  image_comes : (plan : CopyPlan) (policy : PolicyLists) → plan.source ≡ Dir folder → plan.dest ≡ Dir target → (x y : Seen) (r : Result Copied Refusal) → image_end plan policy x y r → Begins folder tree x → Calm x y
+      → Comes of.is_memory r (copy_in tree folder taken policy)
+  unfolding image_end copy_in
+  image_comes plan policy from to x y r end begins calm =
+      comes_then of.is_memory (given (dest_at plan.dest)) (λ d. on_first lane_course (admission plan policy) >>= (λ it. placing it.from d it.image)) (Ok (dest.Folder target)) (λ u. and_then u (λ (d : Dest). copied policy))
+      (Begins folder tree) (Begins folder tree) (λ e. refl) (goes_given (dest_at plan.dest))
+      (λ d. goes_then (on_first lane_course (admission plan policy)) (λ it. placing it.from d it.image) (goes_on (admission plan policy)) (λ it. goes_placing it.from d it.image))
+      (λ a m s one i c. comes_given of.is_memory (dest_at plan.dest) (Ok (dest.Folder target)) (ap dest_at to) a m s one)
+      (λ a m v one i. given_same (dest_at plan.dest) (Begins folder tree) a m (Ok v) one i)
+      (λ m b d s is two i c. rest m b s (subst (λ (v : Dest). (on_first lane_course (admission plan policy) >>= (λ it. placing it.from v it.image)) m b s) (ok_same {E = Refusal} d (dest.Folder target) is) two) i c)
+      x y r end begins calm
+    where
+      equals : Equals tree (admission plan policy) (take_it folder (admitted_in tree folder policy))
+      equals = admission_equals tree folder plan policy from
+
+      rest : (m b : Seen) (s : Result Copied Refusal) → (on_first lane_course (admission plan policy) >>= (λ it. placing it.from (dest.Folder target) it.image)) m b s → Begins folder tree m → Calm m b → Comes of.is_memory s (copied policy)
+      rest m b s end i c =
+          comes_as of.is_memory s (and_then (take_it folder (admitted_in tree folder policy)) (λ (it : Taken). placed_in tree folder taken it.image)) (copied policy)
+          (comes_then of.is_memory (on_first lane_course (admission plan policy)) (λ it. placing it.from (dest.Folder target) it.image) (take_it folder (admitted_in tree folder policy)) (λ u. and_then u (λ (it : Taken). placed_in tree folder taken it.image))
+          (Begins folder tree) (Begins folder tree) (λ e. refl) (goes_on (admission plan policy)) (λ it. goes_placing it.from (dest.Folder target) it.image)
+          (λ k l v one i c. first_comes of.is_memory lane_course (admission plan policy) (take_it folder (admitted_in tree folder policy)) (lane_comes (admission plan policy) (take_it folder (admitted_in tree folder policy))) k l v (some_lane tree k.lanes i.first) c one
+          (λ a z w at t. (equals a z w t (first_tells tree k.lanes a i.first at)).0))
+          (λ k l v one i. begins_still folder tree k l i (first_kept (admission plan policy) k l (Ok v) one) (first_still of.is_memory lane_course (admission plan policy) tree (take_it folder (admitted_in tree folder policy)) equals (lane_value (admission plan policy)) k l v i.first one))
+          (λ k l it v is two i c. placing_comes it.image k l v (subst (λ f. placing f (dest.Folder target) it.image k l v) (from_taken folder (admitted_in tree folder policy) it is) two) i c)
+          m b s end i c)
+          (flat (admitted_in tree folder policy) (λ it. Ok (taken_of (source.Folder folder) it)) (λ (it : Taken). placed_in tree folder taken it.image))
+
+-- ---- the command
+
+-- an image's step, by its answer
+of_image_is : {A : Type 0} (step : SeenStep Refusal A) (P : Result A CommandRefusal → Type 0) (x y : Seen) → ((v : A) → step x y (Ok v) → P (Ok v)) → ((e : Refusal) → step x y (Err e) → P (Err (Image e))) → (r : Result A CommandRefusal) → of_image step x y r → P r
+unfolding of_image
+of_image_is step P x y f g (Ok v) end = f v end
+of_image_is step P x y f g (Err (Image e)) end = g e end
+of_image_is step P x y f g (Err (Words p k)) end = absurd end
+of_image_is step P x y f g (Err (Reference t d)) end = absurd end
+of_image_is step P x y f g (Err (SamePlace p)) end = absurd end
+of_image_is step P x y f g (Err (NotBuilt p)) end = absurd end
+of_image_is step P x y f g (Err (PolicyMissing p)) end = absurd end
+of_image_is step P x y f g (Err (PolicyInvalid p k m)) end = absurd end
+of_image_is step P x y f g (Err PolicyTooLarge) end = absurd end
+of_image_is step P x y f g (Err (Output n)) end = absurd end
+
+image_value : {A : Type 0} (v : A) (w : Result A Refusal) → Comes of.is_memory (Ok v) w → Comes is_memory (Ok v) (or_image w)
+image_value v w (inl bad) = let n : false ≡ true = bad in cc
+image_value v w (inr is) = inr (ap or_image is)
+
+image_refusal : {A : Type 0} (e : Refusal) (w : Result A Refusal) → Comes of.is_memory (Err e) w → Comes is_memory (Err (Image e)) (or_image w)
+image_refusal e w (inl is) = inl is
+image_refusal e w (inr is) = inr (ap or_image is)
+
+of_image_comes : {A : Type 0} (step : SeenStep Refusal A) (w : Result A Refusal) (x y : Seen) → ((r : Result A Refusal) → step x y r → Comes of.is_memory r w) → (r : Result A CommandRefusal) → of_image step x y r → Comes is_memory r (or_image w)
+of_image_comes step w x y f r end = of_image_is step (λ r. Comes is_memory r (or_image w)) x y (λ v one. image_value v w (f (Ok v) one)) (λ e one. image_refusal e w (f (Err e) one)) r end
+
+goes_of_image : {A : Type 0} (step : SeenStep Refusal A) → Goes step → Goes (of_image step)
+goes_of_image step f x y r end = of_image_is step (λ r. OnEach (λ place a b. IsLater a b) x.lanes y.lanes) x y (λ v one. f x y (Ok v) one) (λ e one. f x y (Err e) one) r end
+
+policy_equals : (tree : Tree) (home cwd : List ℕ) (choice : PolicyChoice) → Equals tree (policy_end home cwd choice) (policy_at tree home cwd choice)
+unfolding policy_end
+policy_equals tree home cwd Anything a b r end tells = (end.0, end.1.files ∙ tells)
+policy_equals tree home cwd (Named path) a b r end tells = (told tree (λ t. r ≡ policy_file t path) a.files.tree tells end.0, end.1.files ∙ tells)
+policy_equals tree home cwd Usual a b r end tells = (told tree (λ t. r ≡ policy_file t (usual_path t home cwd)) a.files.tree tells end.0, end.1.files ∙ tells)
+
+app_kept : {A : Type 0} (step : LaneStep CommandRefusal A) (x y : Seen) (r : Result A CommandRefusal) → on_first app.lane_course step x y r → KeepsFrom 1 x.lanes y.lanes
+unfolding on_first
+app_kept step x y r end = end.1
+
+goes_policy : {A : Type 0} (step : LaneStep CommandRefusal A) → Goes (on_first app.lane_course step)
+goes_policy step = goes_first app.lane_course step (app_later step)
+
+seen_comes : {A : Type 0} (step : SeenStep CommandRefusal A) (w : Result A CommandRefusal) (x y : Seen) (r : Result A CommandRefusal) → Ends seen_course step x y r → (step x y r → Comes is_memory r w) → Comes is_memory r w
+unfolding Ends
+seen_comes step w x y (Ok v) end f = f end.ends
+seen_comes {A} step w x y (Err e) end f = by (is_memory e) refl end.ends
+  where
+    by : (m : Bool) → is_memory e ≡ m → EndsBy {A = A} m seen_course e step x y → Comes is_memory (Err e) w
+    by true is shown = inl is
+    by false is one = f one
+
+module _ (tree : Tree) (home cwd : List ℕ) (task : CopyTask) (folder target : List ℕ) (apart : folder ≢ target) (from : task.plan.source ≡ Dir folder) (to : task.plan.dest ≡ Dir target) (taken : Result ⊤ Refusal) (judges : Judges tree target taken) where
+  abbrev by_policy : Result Copied CommandRefusal
+  by_policy = and_then (policy_at tree home cwd task.policy) (λ policy. or_image (copy_in tree folder taken policy))
+
+  task_comes : (x y : Seen) (r : Result Copied CommandRefusal) → image_of_task home cwd task x y r → Begins folder tree x → Calm x y → Comes is_memory r by_policy
+  unfolding image_of_task
+  task_comes x y r end begins calm =
+      comes_then is_memory (on_first app.lane_course (policy_end home cwd task.policy)) (λ policy. of_image (image_end task.plan policy)) (policy_at tree home cwd task.policy) (λ u. and_then u (λ policy. or_image (copy_in tree folder taken policy)))
+      (Begins folder tree) (Begins folder tree) (λ e. refl) (goes_policy (policy_end home cwd task.policy)) (λ policy. goes_of_image (image_end task.plan policy) (goes_image task.plan policy))
+      (λ a m s one i c. first_comes is_memory app.lane_course (policy_end home cwd task.policy) (policy_at tree home cwd task.policy) (app_comes (policy_end home cwd task.policy) (policy_at tree home cwd task.policy)) a m s (some_lane tree a.lanes i.first) c one
+      (λ k l v at t. (policy_equals tree home cwd task.policy k l v t (first_tells tree a.lanes k i.first at)).0))
+      (λ a m v one i. begins_still folder tree a m i (app_kept (policy_end home cwd task.policy) a m (Ok v) one) (first_still is_memory app.lane_course (policy_end home cwd task.policy) tree (policy_at tree home cwd task.policy) (policy_equals tree home cwd task.policy) (app_value (policy_end home cwd task.policy)) a m v i.first one))
+      (λ m b policy s is two i c. of_image_comes (image_end task.plan policy) (copy_in tree folder taken policy) m b (λ v end. image_comes tree folder target apart taken judges task.plan policy from to m b v end i c) s two)
+      x y r end begins calm
+
+  prints_come : (done : Done) (m t : CommandTold) (r : Result Done CommandRefusal) → (Rose m.out.faults t.out.faults → ⊥) → printing done m t r → Comes is_memory r (Ok done) × (t.seen ≡ m.seen)
+  unfolding printing
+  prints_come done m t (Ok x) calm end = (inr (ap Ok end.0), end.1)
+  prints_come done m t (Err e) calm end = (by e end.1.of_output end.2, end.0)
+    where
+      by : (e : CommandRefusal) → IsOfOutput e → BlamesOutput e m.out t.out → Comes {A = Done} is_memory (Err e) (Ok done)
+      by (Image image.Memory) is blames = inl refl
+      by (Image (image.Files n)) is blames = absurd is
+      by (Image (image.Wire n)) is blames = absurd is
+      by (Image (image.Job k c)) is blames = absurd is
+      by (Image (image.NotBuilt p)) is blames = absurd is
+      by (Image (image.NotAnImageDir p)) is blames = absurd is
+      by (Image (image.TooLarge q n)) is blames = absurd is
+      by (Image (image.ManifestInvalid k)) is blames = absurd is
+      by (Image (image.Rejected s n y)) is blames = absurd is
+      by (Words p k) is blames = absurd is
+      by (Reference x f) is blames = absurd is
+      by (SamePlace p) is blames = absurd is
+      by (NotBuilt p) is blames = absurd is
+      by (PolicyMissing p) is blames = absurd is
+      by (PolicyInvalid p k q) is blames = absurd is
+      by PolicyTooLarge is blames = absurd is
+      by (Output n) is blames = absurd (calm blames.1)
+
+  lanes_come : (s m : CommandTold) (r : Result Copied CommandRefusal) → on_lanes (image_of_task home cwd task) s m r → Begins folder tree s.seen → Calm s.seen m.seen → Comes is_memory r by_policy × (m.out ≡ s.out)
+  unfolding on_lanes
+  lanes_come s m r end begins calm = (seen_comes (image_of_task home cwd task) by_policy s.seen m.seen r end.0 (λ one. task_comes s.seen m.seen r one begins calm), end.1)
+
+  on_out : (s m : CommandTold) (copied : Copied) → on_lanes (image_of_task home cwd task) s m (Ok copied) → m.out ≡ s.out
+  unfolding on_lanes
+  on_out s m copied end = end.1
+
+  copy_comes : (before after : CommandTold) (r : Result Done CommandRefusal) → (on_lanes (image_of_task home cwd task) >>= (λ copied. printing (copy_done task.quiet copied))) before after r → Begins folder tree before.seen → AreCalm before after
+      → Comes is_memory r (and_then by_policy (λ copied. Ok (copy_done task.quiet copied)))
+  copy_comes before after r (goes s m t copied w one two) begins calm =
+      let out : m.out ≡ s.out = on_out s m copied one in
+      let printed = prints_come (copy_done task.quiet copied) m t w (λ rose. calm.out (subst (λ o. Rose o.faults t.out.faults) out rose)) two in
+      let lanes = lanes_come s m (Ok copied) one begins (subst (λ v. Calm s.seen v) printed.1 calm.lanes) in
+      subst (λ u. Comes is_memory w (and_then u (λ copied. Ok (copy_done task.quiet copied)))) (value_is is_memory copied by_policy lanes.0) printed.0
+  copy_comes before after r (stops s t e one) begins calm = refused_as is_memory e by_policy (λ u. and_then u (λ copied. Ok (copy_done task.quiet copied))) (λ d. refl) (lanes_come s t (Err e) one begins calm.lanes).0
+
+  task_end_comes : (before after : CommandTold) (r : Result Done CommandRefusal) → task_end home cwd (Copy task) before after r → Begins folder tree before.seen → AreCalm before after → Comes is_memory r (answer_in tree home cwd task folder taken)
+  unfolding copy_end answer_in
+  task_end_comes before after r end begins calm = comes_as is_memory r (and_then by_policy (λ copied. Ok (copy_done task.quiet copied))) (and_then (policy_at tree home cwd task.policy) (λ policy. and_then (or_image (copy_in tree folder taken policy)) (λ copied. Ok (copy_done task.quiet copied))))
+      (copy_comes before after r end begins calm)
+      (flat (policy_at tree home cwd task.policy) (λ policy. or_image (copy_in tree folder taken policy)) (λ copied. Ok (copy_done task.quiet copied)))
+
+  ending_comes : (words : List (List ℕ)) → task_of words cwd ≡ Ok (Copy task) → (before after : CommandTold) (r : Result Done CommandRefusal) → ending words home cwd before after r → Begins folder tree before.seen → AreCalm before after → Comes is_memory r (answer_in tree home cwd task folder taken)
+  unfolding ending given
+  ending_comes words named before after r end begins calm = by before after r end begins calm
+    where
+      by : (before after : CommandTold) (r : Result Done CommandRefusal) → Then (given (task_of words cwd)) (task_end home cwd) before after r → Begins folder tree before.seen → AreCalm before after → Comes is_memory r (answer_in tree home cwd task folder taken)
+      by before after r (goes s m t it w one two) begins calm =
+          let is : it ≡ Copy task = ok_same {E = CommandRefusal} it (Copy task) (one.1 ∙ named) in
+          task_end_comes s t w (subst (λ v. task_end home cwd (Copy task) v t w) one.0 (subst (λ v. task_end home cwd v m t w) is two)) begins calm
+      by before after r (stops s t e one) begins calm = let no : ◌≡◌ {A = Result Task CommandRefusal} (Err e) (Ok (Copy task)) = one.1 ∙ named in cc
+
+-- ---- and its status
 
 memory_four : (e : CommandRefusal) → is_memory e ≡ true → status_of (Err e) ≡ 4
 memory_four (Image image.Memory) memory = refl
@@ -31,18 +603,42 @@ memory_four (PolicyInvalid p k m) memory = let no : false ≡ true = memory in c
 memory_four PolicyTooLarge memory = let no : false ≡ true = memory in cc
 memory_four (Output n) memory = let no : false ≡ true = memory in cc
 
--- an answer whose status is not 4 is an end of the steps
-end_of : (words : List (List ℕ)) (home cwd : List ℕ) (before after : CommandTold) (answer : Result Done CommandRefusal) → Ends command_course (ending words home cwd) before after answer → (status_of answer ≡ 4 → ⊥)
-    → ending words home cwd before after answer
-unfolding Ends command_course
-end_of words home cwd before after (Ok done) end some = end.ends
-end_of words home cwd before after (Err e) end some = by (is_memory e) refl end.ends
-  where
-    by : (m : Bool) → is_memory e ≡ m → EndsBy {A = Done} m command_course e (ending words home cwd) before after → ending words home cwd before after (Err e)
-    by true memory shown = absurd (some (memory_four e memory))
-    by false other is = is
+status_four : (answer : Result Done CommandRefusal) → wants is_memory answer ≡ true → status_of answer ≡ 4
+status_four (Ok done) memory = let no : false ≡ true = memory in cc
+status_four (Err e) memory = memory_four e memory
 
--- so ends the command
-pub ends_as_its_steps : (words : List (List ℕ)) (home cwd : List ℕ) (before after : CommandTold) (err_before err_after : SinkTold) (code : ℕ) (e : CommandEnds words home cwd before after err_before err_after code) → (code ≡ 4 → ⊥)
-    → ending words home cwd before after e.answer
-ends_as_its_steps words home cwd before after err_before err_after code e some = end_of words home cwd before after e.answer e.is.ends (λ four. some (e.status ∙ four))
+-- an end of the steps, or want of memory
+end_comes : (words : List (List ℕ)) (home cwd : List ℕ) (before after : CommandTold) (answer w : Result Done CommandRefusal) → Ends command_course (ending words home cwd) before after answer → (ending words home cwd before after answer → Comes is_memory answer w) → Comes is_memory answer w
+unfolding Ends command_course
+end_comes words home cwd before after (Ok done) w end f = f end.ends
+end_comes words home cwd before after (Err e) w end f = by (is_memory e) refl end.ends
+  where
+    by : (m : Bool) → is_memory e ≡ m → EndsBy {A = Done} m command_course e (ending words home cwd) before after → Comes is_memory (Err e) w
+    by true is shown = inl is
+    by false is one = f one
+
+pub ends_by_tree : (words : List (List ℕ)) (home cwd : List ℕ) (task : CopyTask) (folder target : List ℕ) (tree : Tree) → EndsByTree words home cwd task folder target tree
+ends_by_tree words home cwd task folder target tree taken before after err_before err_after code copy judges calm end =
+    by (end_comes words home cwd before after end.answer (answer_in tree home cwd task folder taken) end.is.ends
+    (λ one. ending_comes tree home cwd task folder target copy.apart copy.from copy.to taken judges words copy.named before after end.answer one (record { first = copy.first; same = copy.same }) calm))
+  where
+    by : Comes is_memory end.answer (answer_in tree home cwd task folder taken) → (code ≡ 4) ⊎ (end.answer ≡ answer_in tree home cwd task folder taken)
+    by (inl memory) = inl (end.status ∙ status_four end.answer memory)
+    by (inr is) = inr is
+
+-- ---- a good copy
+
+good_answer : (home cwd : List ℕ) (task : CopyTask) (folder target : List ℕ) (tree : Tree) → (good : IsGood home cwd task folder target tree) → answer_in tree home cwd task folder (Ok tt) ≡ Ok (copy_done task.quiet (copied_of good.image))
+unfolding answer_in copy_in placed_in
+good_answer home cwd task folder target tree good =
+    ap (λ u. and_then u (λ policy. and_then (or_image (and_then (admitted_in tree folder policy) (λ it. and_then (first_fault tree folder it.jobs) (λ _. Ok (copied_of it))))) (λ copied. Ok (copy_done task.quiet copied)))) good.counts
+    ∙ ap (λ u. and_then (or_image (and_then u (λ it. and_then (first_fault tree folder it.jobs) (λ _. Ok (copied_of it))))) (λ copied. Ok (copy_done task.quiet copied))) good.admitted
+    ∙ ap (λ u. and_then (or_image (and_then u (λ _. Ok (copied_of good.image)))) (λ copied. Ok (copy_done task.quiet copied))) good.blobs
+
+pub good_ends : (words : List (List ℕ)) (home cwd : List ℕ) (task : CopyTask) (folder target : List ℕ) (tree : Tree) → GoodEnds words home cwd task folder target tree
+good_ends words home cwd task folder target tree before after err_before err_after code copy good calm end =
+    by (ends_by_tree words home cwd task folder target tree (Ok tt) before after err_before err_after code copy good.may calm end)
+  where
+    by : (code ≡ 4) ⊎ (end.answer ≡ answer_in tree home cwd task folder (Ok tt)) → (code ≡ 4) ⊎ (code ≡ 0)
+    by (inl four) = inl four
+    by (inr is) = inr (end.status ∙ ap status_of (is ∙ good_answer home cwd task folder target tree good))

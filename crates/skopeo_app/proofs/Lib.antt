@@ -9,4 +9,5 @@ pub mod TellingLemmas
 pub mod RunLemmas
 pub mod CommandLemmas
 pub mod NumberLemmas
+pub mod ByTreeLemmas
 pub mod CompleteLemmas

@@ -16,3 +16,5 @@ pub mod Reads
 pub mod Copies
 pub mod Prints
 pub mod Runs
+pub mod ByTree
+pub mod Complete

@@ -3,6 +3,7 @@
 
 mod command;
 mod job_lines;
+mod law;
 mod lines;
 mod policy;
 mod refusal;
@@ -10,6 +11,7 @@ mod run;
 mod task;
 
 pub use command::skopeo;
+pub use law::folder_copies;
 pub use refusal::{CommandRefusal, Unbuilt};
 pub use run::Done;
 pub use task::{CopyTask, PolicyChoice, Task};

@@ -10,4 +10,5 @@ pub mod ReadyLemmas
 pub mod BesideLemmas
 pub mod ImageLemmas
 pub mod WorkLemmas
+pub mod BringLemmas
 pub mod PieceLaws

@@ -30,9 +30,9 @@ use Rattle.transports.proofs.FolderLemmas.{later_told, untouched_by}
 
 -- ---- how a destination is taken
 
-pub taken : (folder : List ℕ) (a b : LaneTold) (done : Unit {0}) → IsLater a b → IfSome a.files.tree (λ t. layout.Answers (JudgesDestination t folder) (Ok done)) → Ends lane_course (taking (Folder folder)) a b (Ok done)
+pub taken : (folder : List ℕ) (a b : LaneTold) (done : Unit {0}) → IsLater a b → IfSome a.files.tree (λ t. layout.Answers (JudgesDestination t folder) (Ok done)) → Works (Folder folder) a b → Ends lane_course (taking (Folder folder)) a b (Ok done)
 unfolding Ends lane_course taking MayTake
-taken folder a b done later judged = record { later = later; ends = judged }
+taken folder a b done later judged works = record { later = later; ends = (judged, works) }
 
 pub not_taken : (folder : List ℕ) (a b : LaneTold) (given : LayoutFault) (r : Refusal) → OnFiles a b → IsLater a b → layout.LayoutCause {A = Unit {0}} a.files.faults b.files.faults (Err given)
     → IfSome a.files.tree (λ t. layout.Answers (JudgesDestination t folder) (Err given)) → (layout.is_free given ≡ false → b.files.tree ≡ a.files.tree) → IsRefusedThere folder b.files.faults given r → Ends lane_course (taking (Folder folder)) a b (Err r)

@@ -13,7 +13,7 @@ use Rattle.transports.specs.Writes.{KeepsManifests, WritesNone, Spot, AtPath, Is
 use Rattle.transports.specs.Fair.{IsFair, IsFairOn, Works}
 use Rattle.transports.specs.Named.{AddsIn, AddsOnly}
 
-same_then : (a b c : Tree) (q : List ℕ) → SameOrGone a b q → SameOrGone b c q → SameOrGone a c q
+pub same_then : (a b c : Tree) (q : List ℕ) → SameOrGone a b q → SameOrGone b c q → SameOrGone a c q
 same_then a b c q (inl r) (inl s) = inl (s ∙ r)
 same_then a b c q (inr r) (inl s) = inr (s ∙ r)
 same_then a b c q r (inr s) = inr s

@@ -8,7 +8,7 @@ use Rattle.layouts.specs.Names.{manifest_name, prefix_of}
 use Rattle.layouts.specs.Destination.{IsReady, IsManifestIn}
 use Rattle.layouts.specs.Trees.{SameOrGone}
 use Rattle.layouts.specs.Version.{version_text}
-use Rattle.layouts.specs.Paths.{IsIn, blob_path, version_path}
+use Rattle.layouts.specs.Paths.{IsIn, blob_path, blob_part, version_path}
 use Rattle.layouts.specs.Written.{signature_at}
 use Rattle.digest_reader.specs.declared.job.Job.{Job}
 use Rattle.transports.specs.declared.dest.Dest.{Dest}
@@ -62,6 +62,15 @@ pub record AddsIn (folder : List ℕ) (Is : List ℕ → Type 0) (old new : Tree
 -- nothing was added at the destination but blobs of such digests
 unfoldable pub AddsOnly : Dest → (List ℕ → Type 0) → LaneTold → LaneTold → Type 0
 AddsOnly (Folder path) Is old new = Told (AddsIn path Is) old.files.tree new.files.tree
+
+-- each file in the folder is as it was or gone, but for blobs of such digests and this lane's parts of them
+pub record BringsIn (folder : List ℕ) (lane : ℕ) (Is : List ℕ → Type 0) (old new : Tree) : Type 0 where
+  pub files : (q : List ℕ) → IsIn folder q
+      → SameOrGone old new q ⊎ ((digest : List ℕ) × Is digest × ((q ≡ blob_path folder digest) ⊎ (q ≡ blob_part folder digest lane)))
+
+-- nothing was added at the destination but blobs of such digests, and parts of them
+unfoldable pub BringsOnly : Dest → (List ℕ → Type 0) → LaneTold → LaneTold → Type 0
+BringsOnly (Folder path) Is old new = Told (BringsIn path old.number Is) old.files.tree new.files.tree
 
 -- a digest of one of the jobs
 abbrev pub IsOfJobs : List Job → List ℕ → Type 0

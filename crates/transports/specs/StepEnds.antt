@@ -12,6 +12,7 @@ use Rattle.transports.specs.declared.refusal.Refusal.TheVariants.{NotAnImageDir}
 use Rattle.transports.specs.Refusals.{is_free_cause, Blames}
 use Rattle.transports.specs.Given.{BlobEnds}
 use Rattle.transports.specs.Has.{HasBlob, IsReported, IsUntouched, MayTake, MayNotTake}
+use Rattle.transports.specs.Fair.{Works}
 
 -- a step that touches nothing
 abbrev pub reading : {A : Type 0} → LaneStep Refusal A → LaneStep Refusal A
@@ -21,9 +22,9 @@ reading Ends old new r = Ends old new r × IsUntouched old new
 abbrev pub refused : Dest → Refusal
 refused (dest.Folder path) = NotAnImageDir path
 
--- the destination: it may be replaced, or it is refused and nothing was touched
+-- the destination: it may be replaced, and nothing but it was worked at; or it is refused and nothing was touched
 unfoldable pub taking : Dest → LaneStep Refusal ⊤
-taking to old new (Ok done) = MayTake to old
+taking to old new (Ok done) = MayTake to old × Works to old new
 taking to old new (Err e) = (e ≡ refused to) × MayNotTake to old × IsUntouched old new
 
 -- a step at a destination that refuses nothing. (Place for what a registry answers.)

@@ -33,6 +33,7 @@ fn prepare_folder<W: Wire, F: Files>(
     lane: &mut Lane<W, F>,
     folder: &DirImage,
 ) -> Result<(), Refusal>
+    requires first { lane.old.number ≡ 0 }
     ensures ends { Ends lane_course (taking (Folder folder.now)) lane.old lane.new result }
     ensures ready { OnOk result (Told (IsReady folder.now) lane.old.files.tree lane.new.files.tree) }
     ensures kept { OnErr result (Told (IsHalfReady folder.now) lane.old.files.tree lane.new.files.tree) }

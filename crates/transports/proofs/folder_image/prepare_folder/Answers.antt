@@ -4,7 +4,7 @@ use Rattle.skopeo_outside.specs.Outside.{Told}
 use Rattle.layouts.specs.Destination.{JudgesDestination, IsReady, IsHalfReady}
 use Rattle.transports.specs.Calls.{IsRefusedThere}
 use Rattle.transports.proofs.FolderLemmas.{later_told}
-use Rattle.transports.proofs.ReadyLemmas.{taken, not_taken}
+use Rattle.transports.proofs.ReadyLemmas.{taken, not_taken, ready_works}
 use Rattle.transports.proofs.folder_image.prepare_folder.Goals as goal
 
 pub returns-in-Err-clause-ends : goal.returns-in-Err-clause-ends
@@ -21,3 +21,4 @@ returns-clause-ends g c =
     let judged : IfSome c.args.lane.now.files.tree (λ t. Answers (JudgesDestination t c.args.folder.now) (Ok c.in-Ok.field-0)) = search rules in
     let ready : Told (IsReady c.args.folder.now) c.args.lane.now.files.tree (g.F.Files.tree c.prepare.new.files) = search rules in
     taken c.args.folder.now c.args.lane.now _ c.in-Ok.field-0 (later_told (IsReady c.args.folder.now) c.args.lane.now _ (search rules) ready (search rules)) judged
+    (ready_works c.args.folder.now c.args.lane.now _ ready c.requires.first (search rules) (search rules))

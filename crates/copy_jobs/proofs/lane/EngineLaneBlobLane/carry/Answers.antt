@@ -1,13 +1,13 @@
-use Rattle.std.proofs.Common.{rules, ◌≡◌, Option, Some, None, sym, ap, subst, ◌∙◌}
+use Rattle.std.proofs.Common.{rules, ◌≡◌, Some, None, sym, subst}
 use Rattle.std.specs.Option.{option_map}
 use Rattle.digest_reader.specs.declared.job.Job.{Job}
-use Rattle.copy_workers.specs.declared.cause.Cause.{Cause}
 use Rattle.copy_workers.specs.declared.asked.LaneAnswer.TheVariants as answer
 use Rattle.copy_workers.specs.Asked.{Adds}
 use Rattle.copy_workers.specs.Lanes.{Keeps}
+use Rattle.transports.proofs.BringLemmas.{part_brings, left_part}
 use Rattle.copy_jobs.specs.declared.lane.EngineLane.TheInside.{Inside}
 use Rattle.copy_jobs.specs.Lane.{LaneState, IsSound, fault_of, lane_lore}
-use Rattle.copy_jobs.proofs.StateLemmas.{after, calm_none, sound_carried, sound_failed, done_since, keeps_carried, keeps_failed}
+use Rattle.copy_jobs.proofs.StateLemmas.{after, calm_none, kept_failure, sound_carried, sound_failed, done_since, keeps_carried, keeps_failed}
 use Rattle.copy_jobs.proofs.lane.EngineLaneBlobLane.carry.Goals as goal
 
 -- what a lane shows
@@ -33,22 +33,19 @@ returns-in-Ok-clause-kept g c =
     subst (λ o. Keeps lane_lore c.args.job.now o (after l c.carry_blob.new.lane c.carried.new.self l.failure)) c.self.view_is
     (keeps_carried l c.carry_blob.new.lane c.carried.new.self c.args.job.now answer.Carried c.carry_blob.ensures.others adds)
 
--- the failure that is kept
-kept : (job noted : Job) (cause told : Cause) → noted ≡ job → told ≡ cause → ◌≡◌ {A = Option (Job × Cause)} (Some (job, cause)) (Some (noted, told))
-kept job noted cause told j c =
-    let pair : Job → Cause → Option (Job × Cause) = λ x e. Some (x, e) in
-    ap (λ x. pair x cause) (sym j) ∙ ap (λ e. pair noted e) (sym c)
-
 pub invariant_of-self-in-Err : goal.invariant_of-self-in-Err
 invariant_of-self-in-Err g c =
     let l = shown c.self.inside in
-    subst (λ f. IsSound (after l c.carry_blob.new.lane c.carried-in-Err.new.self f)) (kept c.args.job.now c.failure_of.result.job c.in-Err.cause c.failure_of.result.cause.value c.failure_of.ensures.job c.failure_of.ensures.cause)
-    (sound_failed l c.carry_blob.new.lane c.carried-in-Err.new.self c.args.job.now c.in-Err.cause c.self.invariant c.carry_blob.ensures.works c.in-Err.ensures.failed)
+    let adds : Adds c.args.job.now.digest answer.Failed l.asked c.carried-in-Err.new.self = search rules in
+    let part = left_part l.source l.dest c.args.job.now l.lane c.carry_blob.new.lane c.in-Err.ensures.left in
+    subst (λ f. IsSound (after l c.carry_blob.new.lane c.carried-in-Err.new.self f)) (kept_failure c.args.job.now c.failure_of.result.job c.in-Err.cause c.failure_of.result.cause.value c.failure_of.ensures.job c.failure_of.ensures.cause)
+    (sound_failed l c.carry_blob.new.lane c.carried-in-Err.new.self c.args.job.now c.in-Err.cause answer.Failed c.self.invariant c.carry_blob.ensures.works c.in-Err.ensures.failed
+    (part_brings l.dest c.args.job.now l.lane c.carry_blob.new.lane part) adds)
 
 pub returns-in-Err-clause-kept : goal.returns-in-Err-clause-kept
 returns-in-Err-clause-kept g c =
     let l = shown c.self.inside in
     let adds : Adds c.args.job.now.digest answer.Failed l.asked c.carried-in-Err.new.self = search rules in
-    subst (λ f. Keeps lane_lore c.args.job.now c.args.self.now (after l c.carry_blob.new.lane c.carried-in-Err.new.self f)) (kept c.args.job.now c.failure_of.result.job c.in-Err.cause c.failure_of.result.cause.value c.failure_of.ensures.job c.failure_of.ensures.cause)
+    subst (λ f. Keeps lane_lore c.args.job.now c.args.self.now (after l c.carry_blob.new.lane c.carried-in-Err.new.self f)) (kept_failure c.args.job.now c.failure_of.result.job c.in-Err.cause c.failure_of.result.cause.value c.failure_of.ensures.job c.failure_of.ensures.cause)
     (subst (λ o. Keeps lane_lore c.args.job.now o (after l c.carry_blob.new.lane c.carried-in-Err.new.self (Some (c.args.job.now, c.in-Err.cause)))) c.self.view_is
     (keeps_failed l c.carry_blob.new.lane c.carried-in-Err.new.self c.args.job.now c.in-Err.cause answer.Failed (calm l c.args.self.now c.self.view_is c.requires.calm) c.carry_blob.ensures.others adds))
