@@ -29,7 +29,9 @@ pub fn admit_source<W: Wire, F: Files>(
     ensures spares { IfOk result (λ it. Spares it.from lane.old lane.new) }
 {
     let it = find_source(alloc, &plan.source, lane)?;
-    let parsed = Parsed::of(alloc, it.fetched.bytes.as_slice())?;
+    let Ok(parsed) = Parsed::of(alloc, it.fetched.bytes.as_slice()) else {
+        return Err(Refusal::Memory);
+    };
     let kind = require_kind(alloc, &parsed, &it.fetched)?;
     let image = read_parts(alloc, kind, &parsed, &it.fetched)?;
     let signatures = it.from.read_signatures(alloc, lane, None)?;

@@ -62,7 +62,7 @@ stands-later x xs digest i h other = record { there = let lt = h.there in omega 
     before zero e lt same = other same
     before (suc m) e lt same = h.none_before m e (omega arith) same
 
-stands-le : (xs : List Descriptor) (digest : List ℕ) (a b : ℕ) → StandsFirst xs digest a → StandsFirst xs digest b → a ≤ b
+pub stands-le : (xs : List Descriptor) (digest : List ℕ) (a b : ℕ) → StandsFirst xs digest a → StandsFirst xs digest b → a ≤ b
 stands-le xs digest a b ha hb = by_test (nat_lt b a) refl
   where
     by_test : (t : Bool) → nat_lt b a ≡ t → a ≤ b
