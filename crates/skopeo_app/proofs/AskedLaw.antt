@@ -12,7 +12,6 @@ use Rattle.image_ref.specs.declared.place.Place.{Place}
 use Rattle.image_ref.specs.declared.place.Place.TheVariants.{Docker, Dir, Oci}
 use Rattle.image_ref.specs.Reference.{Reference}
 use Rattle.image_ref.proofs.PlaceLaw.{place_to, place_from}
-use Rattle.skopeo_words.specs.CommandOf.{CommandOf}
 use Rattle.skopeo_words.specs.Help.{page_of, version_line}
 use Rattle.skopeo_words.specs.Reading.{command_of}
 use Rattle.skopeo_words.specs.declared.command.Command.{Command}
@@ -23,7 +22,7 @@ use Rattle.skopeo_words.specs.declared.command.SyncEnd.{SyncEnd}
 use Rattle.skopeo_words.specs.declared.command.SyncEnd.TheVariants as sync_end
 use Rattle.skopeo_words.specs.declared.fault.WordsFault.{WordsFault}
 use Rattle.skopeo_words.specs.declared.fault.WordsFault.TheVariants as words_fault
-use Rattle.skopeo_words.proofs.CommandLaw.{commands}
+use Rattle.skopeo_words.proofs.CommandLaw.{commands, copy_of as copied_words, of_copy as words_copied}
 use Rattle.transports.specs.declared.plan.CopyPlan.{CopyPlan}
 use Rattle.transports.specs.declared.refusal.Refusal.TheVariants as image
 use Rattle.transports.specs.Places.{IsBetweenPlaces}
@@ -93,7 +92,7 @@ copy_read words cwd common passing quiet short_names source dest task is e =
       short_names = short_names;
       source = source;
       dest = dest;
-      asked = (commands words (command.Copy common passing quiet short_names source dest)).0 is;
+      asked = copied_words words common passing quiet short_names source dest ((commands words (command.Copy common passing quiet short_names source dest)).0 is);
       from = place_read cwd source begun.0 begun.1;
       to = place_read cwd dest ended.0 ended.1;
       apart = (sound plan common.lanes two.0 refl).places;
@@ -187,7 +186,7 @@ copy_is cwd common passing short_names source dest task from to between are plai
 pub copy_asked : (words : List (List ℕ)) (cwd : List ℕ) (task : CopyTask) → AsksCopy words cwd task → task_of words cwd ≡ Ok (Copy task)
 unfolding task_of task_in
 copy_asked words cwd task a =
-    ap (by_words cwd) ((commands words (command.Copy a.common a.passing task.quiet a.short_names a.source a.dest)).1 a.asked)
+    ap (by_words cwd) ((commands words (command.Copy a.common a.passing task.quiet a.short_names a.source a.dest)).1 (words_copied words a.common a.passing task.quiet a.short_names a.source a.dest a.asked))
     ∙ copy_is cwd a.common a.passing a.short_names a.source a.dest task a.from a.to a.apart a.built a.plain a.lanes a.policy
 
 -- ---- both ways

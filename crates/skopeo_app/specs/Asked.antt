@@ -1,8 +1,7 @@
 -- The copy that words ask for, apart from how they are read. `Task` has it as a function, with its refusals.
 use Rattle.std.specs.Prelude.{◌≡◌, List, ℕ, Bool, true, false}
 use Rattle.image_ref.specs.Place.{PlaceOf}
-use Rattle.skopeo_words.specs.CommandOf.{CommandOf}
-use Rattle.skopeo_words.specs.declared.command.Command.TheVariants as command
+use Rattle.skopeo_words.specs.CopyOf.{CopyOf}
 use Rattle.skopeo_words.specs.declared.command.Common.{Common}
 use Rattle.skopeo_words.specs.declared.command.Passing.{Passing}
 use Rattle.transports.specs.Places.{IsBetweenPlaces}
@@ -18,7 +17,7 @@ pub record AsksCopy (words : List (List ℕ)) (cwd : List ℕ) (task : CopyTask)
   pub short_names : Bool
   pub source : List ℕ
   pub dest : List ℕ
-  pub asked : CommandOf words (command.Copy common passing task.quiet short_names source dest)
+  pub asked : CopyOf words common passing task.quiet short_names source dest
   pub from : PlaceOf cwd source task.plan.source
   pub to : PlaceOf cwd dest task.plan.dest
   pub apart : IsBetweenPlaces task.plan
