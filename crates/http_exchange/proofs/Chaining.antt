@@ -14,10 +14,10 @@ use Rattle.http_message.specs.Spelling.{told_headers}
 use Rattle.http_exchange.specs.Reader.{Reader}
 use Rattle.http_exchange.specs.Talk.{IsOpen}
 use Rattle.http_exchange.specs.Asked.{Asked, CameTo, CameUnder}
-use Rattle.http_exchange.specs.Locations.{Lead, plain, tls, nowhere, lead_in}
-use Rattle.http_exchange.specs.Chain.{redirects, Redirected, EndsBy}
+use Rattle.http_exchange.specs.Locations.{Lead, plain, tls, nowhere, lead_in, shown_location}
+use Rattle.http_exchange.specs.Chain.{redirects, Redirected, Strays, EndsBy}
 use Rattle.http_exchange.specs.Opened.{Chained, OpenSo}
-use Rattle.http_exchange.specs.Hopping.{IsShown, kept_lead, IsNext, NoNext}
+use Rattle.http_exchange.specs.Hopping.{IsShown, kept_lead, kept_location, IsNext, NoNext}
 
 pub gains_more : (xs ys : List Conversation) (old mid new : Conversations) → Gains xs old mid → Gains ys mid new → Gains (xs ++ ys) old new
 gains_more xs ys None mid new p q = q ∙ ap (λ (t : Conversations). option_map (λ (cs : List Conversation). cs ++ ys) t) p
@@ -32,7 +32,7 @@ no_less n = omega arith
 
 fault_ends : (step : Step) (r : Request) (body : List ℕ) (limit left : ℕ) (gained : List Conversation) (first : List ℕ) (fault : AnswerFault)
     → IfSome (outcome_of fault) (λ o. CameUnder r body limit o first gained) → EndsBy step r body limit left gained (fault_of step first fault)
-fault_ends step r body limit left gained first short.BadAnswer came = (refl, (came.c, came.gained_is, (came.noted, inl (came.comes))))
+fault_ends step r body limit left gained first short.BadAnswer came = (refl, (came.c, came.gained_is, inl (came.noted, came.comes)))
 fault_ends step r body limit left gained first (short.HeadTooLong n) came = (came.c, came.gained_is, came.comes)
 fault_ends step r body limit left gained first (short.HeadersTooMany n) came = (came.c, came.gained_is, came.comes)
 fault_ends step r body limit left gained first (short.BodyTooLong n) came = (came.c, came.gained_is, came.comes)
@@ -79,28 +79,36 @@ redirected r body head reader lead c is status leads = record {
   leads = sym (ap (λ (hs : List Header). lead_in r.host r.port (told_headers hs)) is.shows.fields) ∙ leads;
 }
 
-stops_ends : (step : Step) (r : Request) (body : List ℕ) (head : Head) (reader : Reader) (first : List ℕ) (limit left : ℕ) (gained : List Conversation) (fault : ExchangeFault)
-    → first ≡ reader.held.first → (c : Conversation) → gained ≡ c ∷ [] → IsOpen r body head reader c → redirects r head.status ≡ true
-    → NoNext step r head first left fault → EndsBy step r body limit (left - 0) gained fault
-stops_ends step r body head reader first limit left gained (long.BadAnswer s w) same c one is status n = (
-  n.1,
-  (c, one, (n.2 ∙ same ∙ is.noted, inr (omega (arith, n.0), redirected r body head reader nowhere c is status n.3))),
-)
-stops_ends step r body head reader first limit left gained long.TooManyRedirects same c one is status n =
-    (omega (arith, n), (c, one, (kept_lead r head, redirected r body head reader (kept_lead r head) c is status refl)))
-stops_ends step r body head reader first limit left gained (long.TlsRequired host) same c one is status n =
-    (omega (arith, n.0), (c, one, redirected r body head reader (tls host) c is status n.1))
-stops_ends step r body head reader first limit left gained long.Memory same c one is status n = tt
-stops_ends step r body head reader first limit left gained long.Wire same c one is status n = absurd n
-stops_ends step r body head reader first limit left gained (long.HeadTooLong k) same c one is status n = absurd n
-stops_ends step r body head reader first limit left gained (long.HeadersTooMany k) same c one is status n = absurd n
-stops_ends step r body head reader first limit left gained (long.BodyTooLong k) same c one is status n = absurd n
-stops_ends step r body head reader first limit left gained long.Encoded same c one is status n = absurd n
+strays : (r : Request) (body : List ℕ) (head : Head) (reader : Reader) (first : List ℕ) (c : Conversation) → IsOpen r body head reader c
+    → redirects r head.status ≡ true → first ≡ kept_location head → kept_lead r head ≡ nowhere → Strays r body first c
+unfolding redirected
+strays r body head reader first c is status shows leads = record {
+  redirected = redirected r body head reader nowhere c is status leads;
+  location = shows ∙ ap (λ (hs : List Header). shown_location (told_headers hs)) is.shows.fields;
+}
 
-pub follow_stops : (step : Step) (r : Request) (body : List ℕ) (left : ℕ) (old new : Conversations) (reader : Reader) (head : Head) (first : List ℕ) (fault : ExchangeFault)
-    → first ≡ reader.held.first → redirects r head.status ≡ true → NoNext step r head first left fault
+stops_ends : (step : Step) (r : Request) (body : List ℕ) (head : Head) (reader : Reader) (limit left : ℕ) (gained : List Conversation) (fault : ExchangeFault)
+    → (c : Conversation) → gained ≡ c ∷ [] → IsOpen r body head reader c → redirects r head.status ≡ true
+    → NoNext step r head left fault → EndsBy step r body limit (left - 0) gained fault
+stops_ends step r body head reader limit left gained (long.BadAnswer s w) c one is status n = (
+  n.1,
+  (c, one, inr (omega (arith, n.0), strays r body head reader w c is status n.2 n.3)),
+)
+stops_ends step r body head reader limit left gained long.TooManyRedirects c one is status n =
+    (omega (arith, n), (c, one, (kept_lead r head, redirected r body head reader (kept_lead r head) c is status refl)))
+stops_ends step r body head reader limit left gained (long.TlsRequired host) c one is status n =
+    (omega (arith, n.0), (c, one, redirected r body head reader (tls host) c is status n.1))
+stops_ends step r body head reader limit left gained long.Memory c one is status n = tt
+stops_ends step r body head reader limit left gained long.Wire c one is status n = absurd n
+stops_ends step r body head reader limit left gained (long.HeadTooLong k) c one is status n = absurd n
+stops_ends step r body head reader limit left gained (long.HeadersTooMany k) c one is status n = absurd n
+stops_ends step r body head reader limit left gained (long.BodyTooLong k) c one is status n = absurd n
+stops_ends step r body head reader limit left gained long.Encoded c one is status n = absurd n
+
+pub follow_stops : (step : Step) (r : Request) (body : List ℕ) (left : ℕ) (old new : Conversations) (reader : Reader) (head : Head) (fault : ExchangeFault)
+    → redirects r head.status ≡ true → NoNext step r head left fault
     → Asked r body old new reader (Ok head) → Chained step r body left old new reader (Err fault)
-follow_stops step r body left old new reader head first fault same status n asked = record {
+follow_stops step r body left old new reader head fault status n asked = record {
   count = 0;
   few = omega arith;
   hops = [];
@@ -109,7 +117,7 @@ follow_stops step r body left old new reader head first fault same status n aske
   gained = asked.gained;
   told = asked.told;
   most = asked.most;
-  opens = λ limit. stops_ends step r body head reader first limit left asked.gained fault same asked.gives.0 asked.gives.1 asked.gives.2 status n;
+  opens = λ limit. stops_ends step r body head reader limit left asked.gained fault asked.gives.0 asked.gives.1 asked.gives.2 status n;
 }
 
 pub follow_done : (step : Step) (r : Request) (body : List ℕ) (left : ℕ) (old new : Conversations) (reader : Reader) (head : Head)

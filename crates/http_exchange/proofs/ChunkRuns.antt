@@ -69,7 +69,7 @@ one_unique bytes a b r q x y =
       x.rest_is ∙ ap (λ (k : ℕ). drop (x.size + 2) (drop k bytes)) same.0 ∙ ap (λ (s : ℕ). drop (s + 2) (drop y.n bytes)) same.1 ∙ sym y.rest_is,
     )
 
-chunks_same : (c : ℕ) (bytes a b x y : List ℕ) → Chunks c bytes a x → Chunks c bytes b y → (a ≡ b) × (x ≡ y)
+pub chunks_same : (c : ℕ) (bytes a b x y : List ℕ) → Chunks c bytes a x → Chunks c bytes b y → (a ≡ b) × (x ≡ y)
 chunks_same zero bytes a b x y p q = (p.0 ∙ sym q.0, p.1 ∙ sym q.1)
 chunks_same (suc c) bytes a b x y p q =
     let same = chunks_same c bytes p.0 q.0 p.1 q.1 p.3 q.3 in

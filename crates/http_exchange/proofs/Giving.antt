@@ -1,5 +1,5 @@
 -- What a reader has given, from one call to the next.
-use Rattle.std.proofs.Common.{◌≡◌, ℕ, ◌+◌, ◌-◌, ◌<◌, ◌≤◌, ◌⊎◌, inl, inr, Bool, false, ◌||◌, List, [], ◌++◌, length, length-append, length-take, take, drop, refl, arith, ap, sym, subst, ◌∙◌, append_assoc, Result, Ok, Err, Option, Some, None, IfSome, MatchOption}
+use Rattle.std.proofs.Common.{◌≡◌, ℕ, ◌+◌, ◌-◌, ◌<◌, ◌≤◌, ◌⊎◌, inl, inr, Bool, true, false, ◌||◌, List, [], ◌++◌, length, length-append, length-take, take, drop, refl, arith, ap, sym, subst, ◌∙◌, append_assoc, Result, Ok, Err, Option, Some, None, IfSome, MatchOption}
 use Rattle.std.proofs.lemmas.List.{take-append-drop}
 use Rattle.std.proofs.Math.Seq.{take-append-add}
 use Rattle.skopeo_outside.specs.Wire.{Conversations, GoesOn, with_received}
@@ -13,11 +13,11 @@ use Rattle.http_message.specs.ChunkedBody.{ChunkedBody, NoNextChunk, no_data, ov
 use Rattle.http_message.specs.Spelling.{FramedBody, NoFramedBody}
 use Rattle.http_message.proofs.UniqueBlocks.{le_or_lt}
 use Rattle.http_exchange.specs.declared.state.State.{State}
-use Rattle.http_exchange.specs.declared.state.State.TheVariants.{Left, Open, Chunk, Over}
+use Rattle.http_exchange.specs.declared.state.State.TheVariants.{Left, Open, Line, Chunk, Over}
 use Rattle.http_exchange.specs.Received.{Held, Receives}
 use Rattle.http_exchange.specs.Found.{Given, SomeGiven, NoneCame, NoByteCame}
 use Rattle.http_exchange.specs.Streaming.{IsBody, IsNoBody, IsFront, IsPassed}
-use Rattle.http_exchange.specs.Reader.{InChunk, Stands, Settles, GaveOr, Gives, Reader, NextPiece}
+use Rattle.http_exchange.specs.Reader.{InChunk, Stands, Streams, Settles, GaveOr, Gives, Reader, NextOr, NextPiece, is_over}
 use Rattle.http_exchange.proofs.Rounds.{noted_none, noted_more}
 use Rattle.http_exchange.proofs.ChunkRuns.{line-append, chunks-append, last-append, chunks_whole, part_front}
 use Rattle.http_exchange.proofs.Settling.{still, or_was, no_chunked, too_few, stands_same, whole_content}
@@ -42,7 +42,7 @@ all_given given waiting added seen e none =
 
 -- ---- fronts
 
-sized_front : (f : Framing) (size left : ℕ) (given after seen : List ℕ) → f ≡ Sized size → seen ≡ given ++ after → size ≡ length given + left
+pub sized_front : (f : Framing) (size left : ℕ) (given after seen : List ℕ) → f ≡ Sized size → seen ≡ given ++ after → size ≡ length given + left
     → IsFront f given seen
 sized_front f size left given after seen is e len = record { front = λ limit more body ended b. by_body limit more body ended (subst (λ (g : Framing). FramedBody g limit body (seen ++ more) ended) is b) }
   where
@@ -53,13 +53,13 @@ sized_front f size left given after seen is e len = record { front = λ limit mo
           ∙ ap (λ (k : ℕ). take k (given ++ (after ++ more))) len ∙ take-append-add given (after ++ more) left,
     )
 
-open_front : (f : Framing) (given after seen : List ℕ) → f ≡ ToEnd → seen ≡ given ++ after → IsFront f given seen
+pub open_front : (f : Framing) (given after seen : List ℕ) → f ≡ ToEnd → seen ≡ given ++ after → IsFront f given seen
 open_front f given after seen is e = record { front = λ limit more body ended b. by_body limit more body ended (subst (λ (g : Framing). FramedBody g limit body (seen ++ more) ended) is b) }
   where
     by_body : (limit : ℕ) (more body : List ℕ) (ended : Bool) → FramedBody ToEnd limit body (seen ++ more) ended → (tail : List ℕ) × (body ≡ given ++ tail)
     by_body limit more body ended b = (after ++ more, b.1 ∙ ap (λ (w : List ℕ). w ++ more) e ∙ append_assoc given after more)
 
-chunk_front : (f : Framing) (left : ℕ) (given seen waiting : List ℕ) → f ≡ Chunked → InChunk left given seen waiting → IsFront f given seen
+pub chunk_front : (f : Framing) (left : ℕ) (given seen waiting : List ℕ) → f ≡ Chunked → InChunk left given seen waiting → IsFront f given seen
 chunk_front f left given seen waiting is c = record { front = λ limit more body ended b. by_body limit more body (subst (λ (g : Framing). FramedBody g limit body (seen ++ more) ended) is b) }
   where
     by_body : (limit : ℕ) (more body : List ℕ) → ChunkedBody limit body (seen ++ more) → (tail : List ℕ) × (body ≡ given ++ tail)
@@ -431,3 +431,32 @@ failed_again told r into fault is = record {
   alive = tt;
   stays = is;
 }
+
+-- ---- a reader that has given the whole body
+
+over_is : (s : State) → is_over s ≡ true → s ≡ Over
+over_is (Left left) e = cc
+over_is Open e = cc
+over_is Line e = cc
+over_is (Chunk left) e = cc
+over_is Over e = refl
+
+pub over_again : (told : Conversations) (r : Reader) (into : List ℕ) → r.failed ≡ None → is_over r.state ≡ true → NextPiece told told r r into (Ok 0)
+over_again told r into alive over = record {
+  added = [];
+  ended = false;
+  told = receives_none told;
+  noted = noted_none r.held.first;
+  room = omega arith;
+  more = λ s. absurd (omega arith);
+  next = λ f given seen was st.
+      subst (λ (s : State). NextOr f given into (seen ++ []) was (record r { state = s }) (Ok 0)) (sym (over_is r.state over))
+      (nothing_gave f given into (seen ++ []) r.held.waiting was (stands_same Over f given seen r.held.waiting was (stands f given seen was st)));
+  alive = alive;
+  stays = tt;
+}
+  where
+    stands : (f : Framing) (given seen : List ℕ) (was : Bool) → Streams r f given seen was → Stands Over f given seen was r.held.waiting
+    stands f given seen was st =
+        subst (λ (s : State). Stands s f given seen was r.held.waiting) (over_is r.state over)
+        (subst (λ (x : Option AnswerFault). MatchOption x (Stands r.state f given seen was r.held.waiting) (λ e. IfSome (outcome_of e) (λ o. IsNoBody f given o seen was))) alive st)

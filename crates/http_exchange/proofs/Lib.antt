@@ -14,3 +14,5 @@ pub mod WholeExchanges
 pub mod CallLemmas
 pub mod PlainLaws
 pub mod Interim
+pub mod JoinLaws
+pub mod LagLaws

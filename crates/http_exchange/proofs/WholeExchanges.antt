@@ -106,7 +106,7 @@ spells_no_body r body h rest c limit added ended o is b =
 pub asks_on : (r : Request) (body : List ℕ) (c : Conversation) (added : List ℕ) (ended : Bool) → Asks r body c → Asks r body (with_received added ended c)
 asks_on r body c added ended a = record { host_is = a.host_is; port_is = a.port_is; rest = a.rest; front = a.front }
 
-comes_on : (r : Request) (body : List ℕ) (h : ResponseHead) (rest : List ℕ) (c : Conversation) (limit : ℕ) (added : List ℕ) (ended : Bool) (o : Outcome)
+pub comes_on : (r : Request) (body : List ℕ) (h : ResponseHead) (rest : List ℕ) (c : Conversation) (limit : ℕ) (added : List ℕ) (ended : Bool) (o : Outcome)
     → Opens r body h rest c → c.ended ≡ false → Spells (is_get r) limit o (c.received ++ added) ended → Comes r body limit o (with_received added ended c)
 comes_on r body h rest c limit added ended o is more spells = record {
   asks = asks_on r body c added ended is.asks;

@@ -13,7 +13,7 @@ use Rattle.http_message.specs.Heads.{headers_of}
 use Rattle.http_message.specs.Sent.{is_text}
 use Rattle.http_message.specs.Shown.{answer_of}
 use Rattle.http_message.specs.Spelling.{told_headers}
-use Rattle.http_exchange.specs.Locations.{Lead, plain, tls, nowhere, lead_in}
+use Rattle.http_exchange.specs.Locations.{Lead, plain, tls, nowhere, lead_in, shown_location}
 use Rattle.http_exchange.specs.Talk.{is_get, Comes, Opens}
 use Rattle.http_exchange.specs.Asked.{AtMostOne}
 
@@ -41,6 +41,11 @@ pub record Redirected (r : Request) (body : List ℕ) (lead : Lead) (c : Convers
   pub status : redirects r (status_code h) ≡ true
   pub leads : lead_in r.host r.port (told_headers (headers_of h)) ≡ lead
 
+-- the answer of this conversation redirects the request nowhere, and these are the first bytes of its location
+pub record Strays (r : Request) (body first : List ℕ) (c : Conversation) : Type 0 where
+  pub redirected : Redirected r body nowhere c
+  pub location : first ≡ shown_location (told_headers (headers_of redirected.h))
+
 -- the answer of this conversation leads the request to the next one
 pub record Hop (r : Request) (body : List ℕ) (next : Request) (c : Conversation) : Type 0 where
   pub host : List ℕ
@@ -61,8 +66,8 @@ Just Is gained = (c : Conversation) × (gained ≡ c ∷ []) × Is c
 
 -- Why the last request gave no response, when so many more redirects may be followed. Want of memory says nothing.
 abbrev pub EndsBy : Step → Request → List ℕ → ℕ → ℕ → List Conversation → ExchangeFault → Type 0
-EndsBy step r body limit left gained (BadAnswer s first) = (s ≡ step) × Just (λ c. (first ≡ shown c.received)
-    × (Comes r body limit bad_answer c ⊎ ((0 < left) × Redirected r body nowhere c))) gained
+EndsBy step r body limit left gained (BadAnswer s first) = (s ≡ step) × Just (λ c.
+    ((first ≡ shown c.received) × Comes r body limit bad_answer c) ⊎ ((0 < left) × Strays r body first c)) gained
 EndsBy step r body limit left gained Wire = Just (Comes r body limit unfinished) gained
 EndsBy step r body limit left gained (HeadTooLong n) = Just (Comes r body limit (head_too_long n)) gained
 EndsBy step r body limit left gained (HeadersTooMany n) = Just (Comes r body limit (headers_too_many n)) gained

@@ -9,7 +9,7 @@ use Rattle.http_message.specs.declared.fault.ExchangeFault.TheVariants.{BadAnswe
 use Rattle.http_message.specs.Faults.{fault_of}
 use Rattle.http_message.specs.Shown.{field_bytes}
 use Rattle.http_message.specs.Spelling.{told_headers}
-use Rattle.http_exchange.specs.Locations.{Lead, plain, tls, nowhere, lead_in}
+use Rattle.http_exchange.specs.Locations.{Lead, plain, tls, nowhere, lead_in, shown_location}
 use Rattle.http_exchange.specs.Chain.{redirects, request_at}
 
 -- the fault, with the step and the first bytes where it is a bad answer; or want of memory
@@ -20,6 +20,10 @@ IsShown step first fault shown = (shown ≡ Memory) ⊎ (shown ≡ fault_of step
 abbrev pub kept_lead : Request → Head → Lead
 kept_lead r head = lead_in r.host r.port (told_headers (map field_bytes head.fields.items))
 
+-- the first bytes of the location in a kept head
+abbrev pub kept_location : Head → List ℕ
+kept_location head = shown_location (told_headers (map field_bytes head.fields.items))
+
 -- the request that follows
 pub record IsNext (r : Request) (head : Head) (next : Request) : Type 0 where
   pub host : List ℕ
@@ -29,15 +33,15 @@ pub record IsNext (r : Request) (head : Head) (next : Request) : Type 0 where
   pub next_is : next ≡ request_at r host port target
 
 -- why none is followed, though the answer redirects
-abbrev pub NoNext : Step → Request → Head → List ℕ → ℕ → ExchangeFault → Type 0
-NoNext step r head first left (BadAnswer s shown) = (0 < left) × (s ≡ step) × (shown ≡ first) × (kept_lead r head ≡ nowhere)
-NoNext step r head first left TooManyRedirects = left ≡ 0
-NoNext step r head first left (TlsRequired host) = (0 < left) × (kept_lead r head ≡ tls host)
-NoNext step r head first left Memory = Unit {0}
-NoNext step r head first left _ = ⊥
+abbrev pub NoNext : Step → Request → Head → ℕ → ExchangeFault → Type 0
+NoNext step r head left (BadAnswer s first) = (0 < left) × (s ≡ step) × (first ≡ kept_location head) × (kept_lead r head ≡ nowhere)
+NoNext step r head left TooManyRedirects = left ≡ 0
+NoNext step r head left (TlsRequired host) = (0 < left) × (kept_lead r head ≡ tls host)
+NoNext step r head left Memory = Unit {0}
+NoNext step r head left _ = ⊥
 
 -- no redirect, the request that follows, or why none does
-abbrev pub NextOr : Step → Request → Head → List ℕ → ℕ → Result (Option Request) ExchangeFault → Type 0
-NextOr step r head first left (Ok None) = redirects r head.status ≡ false
-NextOr step r head first left (Ok (Some next)) = (redirects r head.status ≡ true) × (0 < left) × IsNext r head next
-NextOr step r head first left (Err fault) = (redirects r head.status ≡ true) × NoNext step r head first left fault
+abbrev pub NextOr : Step → Request → Head → ℕ → Result (Option Request) ExchangeFault → Type 0
+NextOr step r head left (Ok None) = redirects r head.status ≡ false
+NextOr step r head left (Ok (Some next)) = (redirects r head.status ≡ true) × (0 < left) × IsNext r head next
+NextOr step r head left (Err fault) = (redirects r head.status ≡ true) × NoNext step r head left fault

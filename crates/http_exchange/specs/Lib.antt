@@ -14,3 +14,5 @@ pub mod Opened
 pub mod Hopping
 pub mod Calls
 pub mod Plain
+pub mod Joined
+pub mod Behind

@@ -1,21 +1,19 @@
 -- Where the `Location` of an answer leads (RFC 9110, section 10.2.2), as far as this client goes.
-use Rattle.std.specs.Prelude.{ℕ, Bool, cond, ◌&&◌, nat_le, nat_eq, List, [], ◌∷◌, drop, codes, Option, Some, None}
-use Rattle.std.specs.List.{list_all, starts_with}
+use Rattle.std.specs.Prelude.{ℕ, Bool, cond, ◌&&◌, nat_eq, List, [], ◌∷◌, drop, codes, Option, Some, None}
+use Rattle.std.specs.List.{starts_with}
 use Rattle.http1.specs.Text.{eq_ignore_case}
 use Rattle.image_ref.specs.Characters.{colon, slash}
 use Rattle.image_ref.specs.Cuts.{cut_at}
 use Rattle.image_ref.specs.Domain.{is_domain, number}
 use Rattle.http_message.specs.Outcome.{Header}
+pub use Rattle.http_message.specs.Visible.{are_visible}
+use Rattle.http_message.specs.Faults.{shown}
 
 -- where it leads: to a target at a host over plain HTTP, to a host over TLS, or nowhere that is followed
 pub data Lead : Type 0 where
   plain : (host : List ℕ) (port : ℕ) (target : List ℕ) → Lead
   tls : (host : List ℕ) → Lead
   nowhere : Lead
-
--- visible bytes (RFC 5234, VCHAR)
-abbrev pub are_visible : List ℕ → Bool
-are_visible text = list_all (λ b. nat_le 33 b && nat_le b 126) text
 
 -- the port of a host: the one that is written, else 80
 abbrev pub port_in : Option (List ℕ) → ℕ
@@ -58,3 +56,11 @@ lead_by host port (Some value) = lead_of host port (cut_at 35 value).0
 
 abbrev pub lead_in : List ℕ → ℕ → List Header → Lead
 lead_in host port headers = lead_by host port (location_in headers)
+
+-- the first bytes of a location, as a bad answer shows them, and none where it is absent
+abbrev pub shown_value : Option (List ℕ) → List ℕ
+shown_value None = []
+shown_value (Some value) = shown value
+
+abbrev pub shown_location : List Header → List ℕ
+shown_location headers = shown_value (location_in headers)

@@ -1,5 +1,5 @@
 -- Where a reader stands that gives a body piece by piece, and what a call of it does.
-use Rattle.std.specs.Prelude.{◌≡◌, ℕ, ◌+◌, ◌<◌, ◌≤◌, Bool, true, false, ◌||◌, nat_lt, List, [], ◌++◌, length, take, drop, Result, Ok, Err, IfSome, IfOk, IfErr, OnOk, MatchOption, Option, Some, None}
+use Rattle.std.specs.Prelude.{◌≡◌, ℕ, ◌+◌, ◌<◌, ◌≤◌, Bool, true, false, ◌||◌, nat_lt, List, [], ◌++◌, length, take, drop, Result, Ok, Err, IfSome, IfOk, IfErr, OnOk, MatchOption, Option, Some, None, IsTrue, IsFalse}
 use Rattle.skopeo_outside.specs.Wire.{Conversations, GoesOn, with_received}
 use Rattle.http_message.specs.declared.fault.AnswerFault.{AnswerFault}
 use Rattle.http_message.specs.declared.framing.Framing.{Framing}
@@ -52,6 +52,29 @@ is_settled Open = true
 is_settled Line = false
 is_settled (Chunk left) = nat_lt 0 left
 is_settled Over = true
+
+-- the body was given whole
+abbrev pub is_over : State → Bool
+is_over (Left left) = false
+is_over Open = false
+is_over Line = false
+is_over (Chunk left) = false
+is_over Over = true
+
+-- a reader that has not failed, and has not given the whole body, has its connection open
+abbrev pub IsReady : Reader → Bool → Type 0
+IsReady r is_open = r.failed ≡ None → is_over r.state ≡ false → IsTrue is_open
+
+-- the end of the body and a fault close the connection
+abbrev pub ClosesAtEnd : {E : Type 0} → Result ℕ E → Bool → Type 0
+ClosesAtEnd (Ok n) is_open = n ≡ 0 → IsFalse is_open
+ClosesAtEnd (Err fault) is_open = IsFalse is_open
+
+-- what a call of a reader does to its connection: it stays open while the reader may go on, and else is closed by it
+pub record Keeps {E : Type 0} (before after : Reader) (is_open : Bool) (result : Result ℕ E) : Type 0 where
+  pub ready : IsReady after is_open
+  pub more : IfOk result (λ n. 0 < n → IsTrue is_open)
+  pub closed : before.failed ≡ None → is_over before.state ≡ false → ClosesAtEnd result is_open
 
 -- the reader goes on so, or the bytes give no body
 abbrev pub SettledOr : Framing → List ℕ → List ℕ → Bool → List ℕ → Result State AnswerFault → Type 0

@@ -1,8 +1,11 @@
 // An answer whose body is given piece by piece.
-ghost use Rattle.std.specs.Prelude.{◌≡◌, ◌<◌, ◌≤◌, ◌⊎◌, length, Some, None, IsTrue, IfOk, OnOk, IsErrOf};
+ghost use Rattle.std.specs.Prelude.{◌≡◌, ◌<◌, ◌≤◌, ◌⊎◌, length, Some, None, IsTrue, IsFalse, IfOk, OnOk, OnErr, IsErrOf};
 ghost use Rattle.skopeo_outside.specs.Outside.{Rose};
 ghost use Rattle.http_message.specs.declared.fault.AnswerFault.{AnswerFault};
+ghost use Rattle.http_message.specs.Requests.{MaySend};
+ghost use Rattle.http_message.specs.OneRequest.{GainsRequests};
 ghost use Rattle.http_exchange.specs.Opened.{CountsWire};
+ghost use Rattle.http_exchange.specs.Reader.{IsReady, Keeps};
 ghost use Rattle.http_exchange.specs.Calls.{Opened, OpensAnswer, GivesPiece, FaultAgain, FaultStays};
 ghost use Rattle.http_exchange.specs.Hopping.{IsShown};
 
@@ -64,14 +67,18 @@ impl Answer {
 
 /// Sends a request without a body, follows up to five redirects of a GET or a HEAD, and receives the head of the
 /// answer. The connection stays open at Ok, and is closed else.
+#[tactic(auto, using(crate::proofs::PlainLaws::one_chained))]
 pub fn open<W: Wire>(
     alloc: Global,
     wire: &mut W,
     request: &Request,
     step: Step,
 ) -> Result<Answer, ExchangeFault>
+    requires may { MaySend request.now 0 }
     ensures open { OnOk result (IsTrue (W.is_open wire.new)) }
+    ensures closed { OnErr result (IsFalse (W.is_open wire.new)) }
     ensures opened { OpensAnswer step request.now (W.conversations wire.old) (W.conversations wire.new) result }
+    ensures one { GainsRequests (W.conversations wire.old) (W.conversations wire.new) }
     ensures faults { CountsWire (W.faults wire.old) (W.faults wire.new) result }
 {
     let mut body = Body::new(alloc);
@@ -90,17 +97,17 @@ pub fn open<W: Wire>(
 
 /// Gives the next piece of the body, at the front of `into`: how many bytes it has. 0 is the body's end. After a
 /// fault every call answers that fault, and does not ask the wire, which is the one that the answer was opened on.
+/// The end and a fault close the connection.
 pub fn next_piece<W: Wire>(
     alloc: Global,
     wire: &mut W,
     answer: &mut Answer,
     into: &mut [u8],
 ) -> Result<usize, ExchangeFault>
-    requires open { answer.old.reader.failed ≡ None → IsTrue (W.is_open wire.old) }
+    requires open { IsReady answer.old.reader (W.is_open wire.old) }
     requires room { 0 < length into.old }
     ensures within { IfOk result (λ n. n ≤ length into.new) }
-    ensures open { OnOk result (IsTrue (W.is_open wire.new)) }
-    ensures ready { answer.new.reader.failed ≡ None → IsTrue (W.is_open wire.new) }
+    ensures keeps { Keeps answer.old.reader answer.new.reader (W.is_open wire.new) result }
     ensures piece { GivesPiece (W.conversations wire.old) (W.conversations wire.new) answer.old answer.new into.new result }
     ensures again { FaultAgain (W.conversations wire.old) (W.conversations wire.new) answer.old answer.new result }
     ensures stays { FaultStays answer.new result }
@@ -111,4 +118,13 @@ pub fn next_piece<W: Wire>(
         Ok(count) => Ok(count),
         Err(fault) => Err(answer.stop(alloc, fault)),
     }
+}
+
+/// Closes the connection of an answer of which no more is wanted.
+pub fn close_answer<W: Wire>(wire: &mut W, _answer: Answer)
+    ensures closed { IsFalse (W.is_open wire.new) }
+    ensures same { W.conversations wire.new ≡ W.conversations wire.old }
+    ensures count { W.faults wire.new ≡ W.faults wire.old }
+{
+    wire.close();
 }

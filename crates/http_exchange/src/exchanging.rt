@@ -1,5 +1,7 @@
 // A request with its body, and the response.
-ghost use Rattle.std.specs.Prelude.{◌≡◌, None, IsTrue};
+ghost use Rattle.std.specs.Prelude.{◌≡◌, None, length, IsTrue, IsFalse};
+ghost use Rattle.http_message.specs.Requests.{MaySend};
+ghost use Rattle.http_message.specs.OneRequest.{GainsRequests};
 ghost use Rattle.http_exchange.specs.Reader.{fresh};
 ghost use Rattle.http_exchange.specs.Chain.{Exchanges};
 ghost use Rattle.http_exchange.specs.Opened.{CountsWire};
@@ -44,7 +46,7 @@ fn exchange_by<W: Wire>(
 
 /// Sends a request with its body, follows up to five redirects of a GET or a HEAD, and receives the response, whose
 /// body is within the limit. The connection is closed. BadAnswer has the step, and the first bytes, at most 64, of
-/// the last conversation.
+/// the last conversation, or of the location where a redirect leads nowhere.
 pub fn exchange<W: Wire>(
     alloc: Global,
     wire: &mut W,
@@ -53,7 +55,10 @@ pub fn exchange<W: Wire>(
     body: &[u8],
     limit: u64,
 ) -> Result<Response, ExchangeFault>
+    requires may { MaySend request.now (length body.now) }
+    ensures closed { IsFalse (W.is_open wire.new) }
     ensures exchanged { Exchanges step request.now body.now limit (W.conversations wire.old) (W.conversations wire.new) result }
+    ensures one { GainsRequests (W.conversations wire.old) (W.conversations wire.new) }
     ensures faults { CountsWire (W.faults wire.old) (W.faults wire.new) result }
 {
     let mut reader = Body::new(alloc);

@@ -9,10 +9,11 @@ ghost use Rattle.http_exchange.specs.Locations.{lead_in};
 ghost use Rattle.http_exchange.specs.Leads.{shown_lead};
 ghost use Rattle.http_exchange.specs.Chain.{is_redirect, redirects, request_at};
 ghost use Rattle.http_exchange.specs.Opened.{Chained, CountsWire};
-ghost use Rattle.http_exchange.specs.Hopping.{NextOr, IsShown};
+ghost use Rattle.http_exchange.specs.Hopping.{NextOr, IsShown, kept_location};
+ghost use Rattle.http_message.specs.declared.fault.AnswerFault.{AnswerFault};
 
 use crate::ask::{ask, is_get, is_head};
-use crate::location::{Lead, lead_in};
+use crate::location::{Lead, lead_in, shown_location};
 use crate::stream::Body;
 use http_message::{AnswerFault, ExchangeFault, Head, Request, told_headers};
 use skopeo_outside::{Many, Memory, Step, Text, Wire};
@@ -56,6 +57,24 @@ fn lead_of_head(alloc: Global, request: &Request, head: &Head) -> Result<Lead, M
     )
 }
 
+/// The first bytes of the location of a head, and none where it is absent.
+fn kept_location(alloc: Global, head: &Head) -> Result<Many<u8>, Memory>
+    ensures { IfOk result (λ first. first ≡ kept_location head.now) }
+{
+    let headers = told_headers(alloc, &head.fields)?;
+    shown_location(alloc, headers.as_slice())
+}
+
+/// The fault of a redirect that leads nowhere. Want of memory may hide it.
+fn stray_fault(alloc: Global, step: Step, head: &Head) -> ExchangeFault
+    ensures { IsShown step (kept_location head.now) AnswerFault.BadAnswer result }
+{
+    match kept_location(alloc, head) {
+        Ok(first) => ExchangeFault::of(step, first, AnswerFault::BadAnswer),
+        Err(_) => ExchangeFault::Memory,
+    }
+}
+
 /// A copy of an optional text.
 fn copy_of(alloc: Global, text: &Option<Text>) -> Result<Option<Text>, Memory>
     ensures { IfOk result (λ copy. copy ≡ text.now) }
@@ -93,10 +112,9 @@ fn next_request(
     step: Step,
     request: &Request,
     head: &Head,
-    first: &[u8],
     left: u32,
 ) -> Result<Option<Request>, ExchangeFault>
-    ensures { NextOr step request.now head.now first.now left result }
+    ensures { NextOr step request.now head.now left result }
 {
     if !redirects(request, head.status) {
         return Ok(None);
@@ -112,7 +130,7 @@ fn next_request(
             }
         }
         Ok(Lead::Tls(host)) => Err(ExchangeFault::TlsRequired(host)),
-        Ok(Lead::Nowhere) => Err(shown_fault(alloc, step, first, AnswerFault::BadAnswer)),
+        Ok(Lead::Nowhere) => Err(stray_fault(alloc, step, head)),
         Err(_) => Err(ExchangeFault::Memory),
     }
 }
@@ -137,7 +155,7 @@ pub fn follow<W: Wire>(
         Ok(head) => head,
         Err(fault) => return Err(shown_fault(alloc, step, reader.inbox.first(), fault)),
     };
-    match next_request(alloc, step, request, &head, reader.inbox.first(), left)? {
+    match next_request(alloc, step, request, &head, left)? {
         Some(next) => {
             *reader = Body::new(alloc);
             follow(alloc, wire, step, &next, body, reader, left - 1)

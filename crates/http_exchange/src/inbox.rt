@@ -12,7 +12,8 @@ const PIECE: usize = 8192;
 
 const MOST_SHOWN: usize = 64;
 
-/// The first 64 bytes that came, and those that were not read yet, at most 65,536.
+/// The first 64 bytes that came, and a buffer of at most 65,536 bytes, behind whose offset those wait that were not read
+/// yet.
 #[derive(Drop)]
 pub struct Inbox {
     first: [u8; 64],
@@ -26,7 +27,7 @@ impl Model for Inbox {
 
     ghost view = { λ i. record { first = take i.known i.first; waiting = drop i.at i.buffer.items } };
 
-    ghost invariant = { λ i. (i.at ≤ vec_len i.buffer) × (i.known ≤ 64) × (vec_len i.buffer ≤ i.at + 65536) };
+    ghost invariant = { λ i. (i.at ≤ vec_len i.buffer) × (i.known ≤ 64) × (vec_len i.buffer ≤ 65536) };
 }
 
 /// Adds a piece to the first bytes, as far as there is room.
@@ -39,6 +40,19 @@ fn note(first: &mut [u8], known: usize, piece: &[u8]) -> usize
     let count = piece.len().min(MOST_SHOWN - known);
     first[known..known + count].copy_from_slice(&piece[..count]);
     known + count
+}
+
+/// Drops the bytes at the front that were read. Where none were, nothing is moved.
+fn drop_front(buffer: &mut Vec<u8>, at: usize)
+    requires { at ≤ vec_len buffer.old }
+    ensures { buffer.new.items ≡ drop at buffer.old.items }
+{
+    if at == 0 {
+        return;
+    }
+    let len = buffer.len() - at;
+    buffer.as_mut_slice().rotate_left(at);
+    buffer.truncate(len);
 }
 
 /// The fault that a stop of the wire comes to.
@@ -96,16 +110,6 @@ impl Inbox {
         self.at += count;
     }
 
-    /// Gives the room of the bytes that were read to those that come.
-    fn compact(&mut self)
-        ensures same { self.new ≡ self.old }
-    {
-        let len = self.buffer.len() - self.at;
-        self.buffer.as_mut_slice().rotate_left(self.at);
-        self.buffer.truncate(len);
-        self.at = 0;
-    }
-
     /// Adds a piece to the first bytes.
     fn note_came(&mut self, piece: &[u8])
         ensures noted { Notes self.old.first piece.now self.new.first }
@@ -114,7 +118,7 @@ impl Inbox {
         self.known = note(&mut self.first, self.known, piece);
     }
 
-    /// Puts a piece at the end. Want of memory may lose it.
+    /// Puts a piece at the end, in the room of the bytes that were read. Want of memory may lose it.
     fn add(&mut self, piece: &[u8]) -> Result<(), AnswerFault>
         requires room { length self.old.waiting + length piece.now ≤ 65536 }
         ensures noted { Notes self.old.first piece.now self.new.first }
@@ -122,6 +126,8 @@ impl Inbox {
         ensures err { OnErr result (IsErrOf result AnswerFault.Memory) }
     {
         self.note_came(piece);
+        drop_front(&mut self.buffer, self.at);
+        self.at = 0;
         self.buffer.extend_from_slice(piece)?;
         Ok(())
     }
@@ -153,7 +159,6 @@ impl Inbox {
             (Filled self.old.waiting self.new.waiting) (NotFilled self.old.waiting) result }
         ensures faults { CountsFaults (W.faults wire.old) (W.faults wire.new) result }
     {
-        self.compact();
         let most = PIECE.min(MOST_BYTES - self.len());
         let mut piece = [0; PIECE];
         self.fill_by(wire, &mut piece[..most])

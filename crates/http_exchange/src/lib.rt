@@ -18,8 +18,8 @@ mod sending;
 mod state;
 mod stream;
 
-pub use answer::{Answer, next_piece, open};
+pub use answer::{Answer, close_answer, next_piece, open};
 pub use exchanging::exchange;
-pub use law::plain_exchanges;
+pub use law::{given_lags, given_pieces, plain_exchanges, sent_pieces};
 pub use location::{Lead, lead_at, location_in, port_of};
 pub use pieces::{begin, end, send_piece};

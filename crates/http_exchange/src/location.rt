@@ -1,16 +1,16 @@
 // Where the `Location` of an answer leads.
-ghost use Rattle.std.specs.Prelude.{◌≡◌, ◌&&◌, ◌<◌, ◌≤◌, nat_le, map, true, ℕ, Bool, List, Option, IfOk, length, option_map, Some, None};
-ghost use Rattle.std.specs.List.{list_all};
+ghost use Rattle.std.specs.Prelude.{◌≡◌, ◌&&◌, ◌<◌, ◌≤◌, map, true, ℕ, Bool, List, Option, IfOk, length, option_map, Some, None};
 ghost use Rattle.http_message.specs.Shown.{pair_bytes};
 ghost use Rattle.image_ref.specs.Characters.{is_digit};
 ghost use Rattle.image_ref.specs.Cuts.{cut_at};
 ghost use Rattle.image_ref.specs.Domain.{is_domain, number, is_port};
-ghost use Rattle.http_exchange.specs.Locations.{Lead, are_visible, port_of, target_in, plain_lead, path_lead, lead_of, location_in, lead_in};
+ghost use Rattle.http_exchange.specs.Locations.{Lead, are_visible, port_of, target_in, plain_lead, path_lead, lead_of, location_in, lead_in, shown_location};
 ghost use Rattle.http_exchange.specs.Leads.{shown_lead};
 
+use http_message::{are_visible, shown};
 use http1::text::eq_ignore_case;
 use image_ref::{cut_at, is_domain};
-use skopeo_outside::{Memory, Pair, Text};
+use skopeo_outside::{Many, Memory, Pair, Text};
 use std::alloc::Global;
 
 /// Where a location leads.
@@ -22,13 +22,6 @@ pub enum Lead {
     Tls(Text),
     /// Nowhere that is followed.
     Nowhere,
-}
-
-/// Whether each byte is visible.
-fn are_visible(text: &str) -> bool
-    ensures { result ≡ are_visible text.now }
-{
-    text.as_bytes().iter().all(|b| 33 <= *b && *b <= 126)
 }
 
 /// The number that a port writes.
@@ -131,5 +124,15 @@ pub fn lead_in(alloc: Global, host: &str, port: u16, headers: &[Pair]) -> Result
     match location_in(headers) {
         Some(value) => lead_at(alloc, host, port, value),
         None => Ok(Lead::Nowhere),
+    }
+}
+
+/// The first bytes of the location of an answer, by its header lines, and none where it is absent.
+pub fn shown_location(alloc: Global, headers: &[Pair]) -> Result<Many<u8>, Memory>
+    ensures { IfOk result (λ first. first ≡ shown_location (map pair_bytes headers.now)) }
+{
+    match location_in(headers) {
+        Some(value) => shown(alloc, value.as_bytes()),
+        None => Ok(Many::new(alloc)),
     }
 }

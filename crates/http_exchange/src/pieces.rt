@@ -1,7 +1,8 @@
 // A request that is sent piece by piece.
-ghost use Rattle.std.specs.Prelude.{◌≡◌, ◌⊎◌, [], ◌∷◌, false, codes, IsTrue, IfErr, OnOk, OnErr};
+ghost use Rattle.std.specs.Prelude.{◌≡◌, ◌⊎◌, [], ◌∷◌, false, codes, IsTrue, IsFalse, IfErr, OnOk, OnErr};
 ghost use Rattle.skopeo_outside.specs.Wire.{Gains, GoesOn, SendsPart, with_sent};
-ghost use Rattle.http_message.specs.Requests.{text_of};
+ghost use Rattle.http_message.specs.Requests.{text_of, counted, MaySend};
+ghost use Rattle.http_message.specs.OneRequest.{GainsRequests};
 ghost use Rattle.http_message.specs.Sent.{is_text};
 ghost use Rattle.http_exchange.specs.Received.{empty};
 ghost use Rattle.http_exchange.specs.Talk.{is_get};
@@ -29,13 +30,17 @@ fn stopped(stop: Stop) -> ExchangeFault
 
 /// Connects to the host of a request, which is neither a GET nor a HEAD, and sends its head. Its body goes by
 /// `send_piece`, and its answer comes by `end`. The connection stays open at Ok, and is closed else.
+#[tactic(auto, using(crate::proofs::PlainLaws::one_begun, crate::proofs::PlainLaws::one_stopped))]
 pub fn begin<W: Wire>(alloc: Global, wire: &mut W, request: &Request) -> Result<(), ExchangeFault>
+    requires may { MaySend request.now (counted request.now.length) }
     requires no_get { is_get request.now ≡ false }
     requires no_head { is_text (codes "HEAD") request.now.method ≡ false }
     ensures open { OnOk result (IsTrue (W.is_open wire.new)) }
+    ensures closed { OnErr result (IsFalse (W.is_open wire.new)) }
     ensures begun { OnOk result (Gains (sending_to request.now (text_of request.now []) ∷ []) (W.conversations wire.old) (W.conversations wire.new)) }
     ensures failed { IfErr result (λ fault. FailsToBegin (host_name request.now.host) request.now.port (text_of request.now []) fault
         (W.conversations wire.old) (W.conversations wire.new)) }
+    ensures one { GainsRequests (W.conversations wire.old) (W.conversations wire.new) }
     ensures faults { CountsWire (W.faults wire.old) (W.faults wire.new) result }
 {
     if let Err(stop) = send_head(alloc, wire, request) {
@@ -45,10 +50,11 @@ pub fn begin<W: Wire>(alloc: Global, wire: &mut W, request: &Request) -> Result<
     Ok(())
 }
 
-/// Sends a piece of the body of a request that was begun.
+/// Sends a piece of the body of a request that was begun. The connection is closed at an Err.
 pub fn send_piece<W: Wire>(wire: &mut W, bytes: &[u8]) -> Result<(), ExchangeFault>
     requires { IsTrue (W.is_open wire.old) }
     ensures open { OnOk result (IsTrue (W.is_open wire.new)) }
+    ensures closed { OnErr result (IsFalse (W.is_open wire.new)) }
     ensures sent { OnOk result (GoesOn (with_sent bytes.now) (W.conversations wire.old) (W.conversations wire.new)) }
     ensures part { OnErr result (SendsPart bytes.now (W.conversations wire.old) (W.conversations wire.new)) }
     ensures why { IfErr result IsSendingFault }
@@ -93,6 +99,7 @@ pub fn end<W: Wire>(
     limit: u64,
 ) -> Result<Response, ExchangeFault>
     requires { IsTrue (W.is_open wire.old) }
+    ensures closed { IsFalse (W.is_open wire.new) }
     ensures ends { Ends step limit (W.conversations wire.old) (W.conversations wire.new) result }
     ensures faults { CountsWire (W.faults wire.old) (W.faults wire.new) result }
 {

@@ -4,7 +4,7 @@ ghost use Rattle.skopeo_outside.specs.Outside.{Rose};
 ghost use Rattle.http_message.specs.declared.fault.AnswerFault.{AnswerFault};
 ghost use Rattle.http_exchange.specs.Received.{Receives, CountsFaults};
 ghost use Rattle.http_exchange.specs.Found.{Given, SomeGiven, NoneCame, NoByteCame};
-ghost use Rattle.http_exchange.specs.Reader.{Reader, Settles, Gives, NextPiece, Again, is_settled, fresh};
+ghost use Rattle.http_exchange.specs.Reader.{Reader, Settles, Gives, NextPiece, Again, Keeps, IsReady, is_settled, is_over, fresh};
 
 use crate::chunk::{end_chunk, next_chunk};
 use crate::inbox::Inbox;
@@ -78,6 +78,7 @@ fn give_some<W: Wire>(
     ensures open { OnOk result (IsTrue (W.is_open wire.new)) }
     ensures received { Receives (W.conversations wire.old) (W.conversations wire.new) inbox.old inbox.new
         (SomeGiven most into.new inbox.new.waiting) NoByteCame result }
+    ensures some { IfOk result (λ n. 0 < n) }
     ensures faults { CountsFaults (W.faults wire.old) (W.faults wire.new) result }
 {
     let count = give(wire, inbox, most, into)?;
@@ -96,6 +97,19 @@ fn is_settled(state: State) -> bool
         State::Chunk(left) => left > 0,
         State::Line => false,
         State::Open => true,
+        State::Over => true,
+    }
+}
+
+/// Whether the body was given whole.
+fn is_over(state: State) -> bool
+    ensures { result ≡ is_over state }
+{
+    match state {
+        State::Left(_) => false,
+        State::Open => false,
+        State::Line => false,
+        State::Chunk(_) => false,
         State::Over => true,
     }
 }
@@ -129,6 +143,7 @@ fn take_open<W: Wire>(
     requires room { 0 < length into.old }
     ensures open { OnOk result (IsTrue (W.is_open wire.new)) }
     ensures gives { Gives (W.conversations wire.old) (W.conversations wire.new) inbox.old inbox.new State.Open into.new result }
+    ensures over { IfOk result (λ r. r.0 ≡ 0 → is_over r.1 ≡ true) }
     ensures faults { CountsFaults (W.faults wire.old) (W.faults wire.new) result }
 {
     let count = give(wire, inbox, u64::MAX, into)?;
@@ -150,6 +165,7 @@ fn take_piece<W: Wire>(
     requires settled { is_settled state ≡ true }
     ensures open { OnOk result (IsTrue (W.is_open wire.new)) }
     ensures gives { Gives (W.conversations wire.old) (W.conversations wire.new) inbox.old inbox.new state into.new result }
+    ensures over { IfOk result (λ r. r.0 ≡ 0 → is_over r.1 ≡ true) }
     ensures faults { CountsFaults (W.faults wire.old) (W.faults wire.new) result }
 {
     match state {
@@ -178,6 +194,7 @@ fn give_next<W: Wire>(
     requires room { 0 < length into.old }
     ensures open { OnOk result (IsTrue (W.is_open wire.new)) }
     ensures gives { Gives (W.conversations wire.old) (W.conversations wire.new) inbox.old inbox.new state into.new result }
+    ensures over { IfOk result (λ r. r.0 ≡ 0 → is_over r.1 ≡ true) }
     ensures faults { CountsFaults (W.faults wire.old) (W.faults wire.new) result }
 {
     let ready = settle(wire, inbox, state)?;
@@ -203,6 +220,7 @@ impl Body {
         requires alive { self.old.failed ≡ None }
         ensures open { OnOk result (IsTrue (W.is_open wire.new)) }
         ensures piece { NextPiece (W.conversations wire.old) (W.conversations wire.new) self.old self.new into.new result }
+        ensures over { IfOk result (λ n. n ≡ 0 → is_over self.new.state ≡ true) }
         ensures faults { CountsFaults (W.faults wire.old) (W.faults wire.new) result }
     {
         match give_next(wire, &mut self.inbox, self.state, into) {
@@ -217,16 +235,59 @@ impl Body {
         }
     }
 
+    /// The same, and the end of the body or a fault closes the connection.
+    fn read_closing<W: Wire>(&mut self, wire: &mut W, into: &mut [u8]) -> Result<usize, AnswerFault>
+        requires open { IsTrue (W.is_open wire.old) }
+        requires room { 0 < length into.old }
+        requires alive { self.old.failed ≡ None }
+        ensures keeps { Keeps self.old self.new (W.is_open wire.new) result }
+        ensures piece { NextPiece (W.conversations wire.old) (W.conversations wire.new) self.old self.new into.new result }
+        ensures faults { CountsFaults (W.faults wire.old) (W.faults wire.new) result }
+    {
+        match self.read_on(wire, into) {
+            Ok(count) => {
+                if count > 0 {
+                    return Ok(count);
+                }
+                wire.close();
+                Ok(count)
+            }
+            Err(fault) => {
+                wire.close();
+                Err(fault)
+            }
+        }
+    }
+
+    /// Gives the next piece of a body that has not failed. Behind the whole body the wire is not asked.
+    fn read_unless_over<W: Wire>(
+        &mut self,
+        wire: &mut W,
+        into: &mut [u8],
+    ) -> Result<usize, AnswerFault>
+        requires open { is_over self.old.state ≡ false → IsTrue (W.is_open wire.old) }
+        requires room { 0 < length into.old }
+        requires alive { self.old.failed ≡ None }
+        ensures keeps { Keeps self.old self.new (W.is_open wire.new) result }
+        ensures piece { NextPiece (W.conversations wire.old) (W.conversations wire.new) self.old self.new into.new result }
+        ensures faults { CountsFaults (W.faults wire.old) (W.faults wire.new) result }
+    {
+        if is_over(self.state) {
+            return Ok(0);
+        }
+        self.read_closing(wire, into)
+    }
+
     /// Gives the next piece of the body, at the front of `into`. Nothing is the body's end. After a fault that
-    /// fault is given again, and the wire is not asked.
+    /// fault is given again, and the wire is not asked. The end and a fault close the connection.
     pub fn read_piece<W: Wire>(
         &mut self,
         wire: &mut W,
         into: &mut [u8],
     ) -> Result<usize, AnswerFault>
-        requires open { self.old.failed ≡ None → IsTrue (W.is_open wire.old) }
+        requires open { IsReady self.old (W.is_open wire.old) }
         requires room { 0 < length into.old }
-        ensures open { OnOk result (IsTrue (W.is_open wire.new)) }
+        ensures keeps { Keeps self.old self.new (W.is_open wire.new) result }
         ensures piece { NextPiece (W.conversations wire.old) (W.conversations wire.new) self.old self.new into.new result }
         ensures again { Again (W.conversations wire.old) (W.conversations wire.new) self.old self.new result }
         ensures count { W.faults wire.old ≤ W.faults wire.new }
@@ -234,7 +295,7 @@ impl Body {
     {
         match self.failed {
             Some(fault) => Err(fault),
-            None => self.read_on(wire, into),
+            None => self.read_unless_over(wire, into),
         }
     }
 }

@@ -1,9 +1,10 @@
 // Exchanges over a wire of which a call fails.
 ghost use Rattle.std.specs.Prelude.{◌≡◌, None, IsTrue};
+ghost use Rattle.http_exchange.specs.Reader.{IsReady};
 
 use http::Method;
 use http_exchange::{Answer, exchange, next_piece, open};
-use http_message::{ExchangeFault, Request};
+use http_message::{ExchangeFault, Request, may_send};
 use skopeo_outside::{Many, MemWire, Memory, Peer, Step, Text, Wire};
 use std::alloc::Global;
 use std::test::Fail;
@@ -68,6 +69,9 @@ fn word_of(fault: &ExchangeFault) -> &'static str {
 fn redirected(alloc: Global, failing: u64) -> Result<(&'static str, u64), Memory> {
     let mut wire = wire_to(alloc, MOVED, 8192, failing)?;
     let request = get(alloc)?;
+    if !may_send(&request, 0) {
+        return Err(Memory);
+    }
     let result = exchange(alloc, &mut wire, &request, Step::Blob, &[], 20);
     let word = match &result {
         Ok(response) => {
@@ -94,7 +98,7 @@ fn each_call_failing_in_turn(rt: HostRuntime) -> Result<(), Fail> {
 
 /// How many bytes of the body are given before its end or a fault, and the word of that.
 fn given<W: Wire>(alloc: Global, wire: &mut W, answer: &mut Answer) -> (usize, &'static str)
-    requires open { answer.old.reader.failed ≡ None → IsTrue (W.is_open wire.old) }
+    requires open { IsReady answer.old.reader (W.is_open wire.old) }
 {
     let mut into = [0; 1];
     for count in 0..10 {
@@ -113,6 +117,9 @@ fn given<W: Wire>(alloc: Global, wire: &mut W, answer: &mut Answer) -> (usize, &
 fn given_by(alloc: Global, failing: u64) -> Result<(usize, &'static str), Memory> {
     let mut wire = wire_to(alloc, BODY, 20, failing)?;
     let request = get(alloc)?;
+    if !may_send(&request, 0) {
+        return Err(Memory);
+    }
     match open(alloc, &mut wire, &request, Step::Blob) {
         Ok(mut answer) => Ok(given(alloc, &mut wire, &mut answer)),
         Err(fault) => Ok((0, word_of(&fault))),

@@ -14,3 +14,5 @@ pub mod WriteLaws
 pub mod ToldLemmas
 pub mod WrittenLemmas
 pub mod FramingLemmas
+pub mod ShownLemmas
+pub mod LaxHeads

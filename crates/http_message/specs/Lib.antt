@@ -10,5 +10,7 @@ pub mod Shown
 pub mod Faults
 pub mod Written
 pub mod Sent
+pub mod Visible
+pub mod OneRequest
 pub mod Requests
 pub mod Writes

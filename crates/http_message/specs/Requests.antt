@@ -1,10 +1,12 @@
 -- The text of a request: the lines of its head in their order, an empty line, and its body (RFC 9112, sections 2.1 and 3).
-use Rattle.std.specs.Prelude.{◌≡◌, ◌≢◌, ℕ, ◌<◌, ◌≤◌, ◌^◌, ◌⊎◌, Bool, true, false, List, [], ◌∷◌, ◌++◌, length, codes, Option, Some, None, MatchOption}
+use Rattle.std.specs.Prelude.{◌≡◌, ◌≢◌, ℕ, ◌<◌, ◌≤◌, ◌^◌, ◌⊎◌, Bool, true, false, ◌&&◌, ◌||◌, List, [], ◌∷◌, ◌++◌, length, codes, Option, Some, None, MatchOption}
 use Rattle.std.specs.Fmt.{decimal}
 use Rattle.std.specs.List.{list_all}
 use Rattle.std.specs.Char.{is_ascii_uppercase}
 use Rattle.http_message.specs.declared.request.Request.{Request}
-use Rattle.http_message.specs.Sent.{with_head, HasHead, is_one_line, puts_manifest, deletes}
+use Rattle.http_message.specs.Sent.{with_head, HasHead, is_one_line, is_text, puts_manifest, deletes}
+use Rattle.http_message.specs.OneRequest.{IsOneRequest}
+use Rattle.http_message.specs.Visible.{are_visible}
 
 -- the kinds of manifest that are taken, in order
 unfoldable pub manifest_types : List ℕ
@@ -55,6 +57,30 @@ pub record IsClean (r : Request) : Type 0 where
   pub content_type : MatchOption r.content_type Unit (λ t. is_one_line t ≡ true)
   pub size : counted r.length < 2 ^ 64
 
+-- it asks, and gives nothing: a GET or a HEAD
+abbrev pub only_asks : Request → Bool
+only_asks r = is_text (codes "GET") r.method || is_text (codes "HEAD") r.method
+
+-- its body's type is visible bytes, where it has one
+abbrev pub is_visible_type : Option (List ℕ) → Bool
+is_visible_type None = true
+is_visible_type (Some t) = are_visible t
+
+-- its method is capital letters, and its host, target and type are visible bytes
+abbrev pub is_shown : Request → Bool
+is_shown r = list_all is_ascii_uppercase r.method && (are_visible r.host && (are_visible r.target && is_visible_type r.content_type))
+
+-- It may be sent with a body of so many bytes: its method is capital letters, its host, target and type are visible
+-- bytes, and it counts that body; a GET and a HEAD have none.
+pub record MaySend (r : Request) (size : ℕ) : Type 0 where
+  pub method : list_all is_ascii_uppercase r.method ≡ true
+  pub host : are_visible r.host ≡ true
+  pub target : are_visible r.target ≡ true
+  pub content_type : is_visible_type r.content_type ≡ true
+  pub counts : counted r.length ≡ size
+  pub small : size < 2 ^ 64
+  pub asks : only_asks r ≡ true → r.length ≡ None
+
 -- what was sent begins this request with this body, and is followed by the tail
 pub record Begins (r : Request) (body sent tail : List ℕ) : Type 0 where
   pub clean : IsClean r
@@ -79,3 +105,7 @@ PutsNone r = (body sent tail : List ℕ) (ls : List (List ℕ)) (after : List �
 abbrev pub DeletesNone : Request → Type 0
 DeletesNone r = (body sent tail : List ℕ) (ls : List (List ℕ)) (after : List ℕ)
     → r.method ≢ codes "DELETE" → Begins r body sent tail → HasHead sent ls after → deletes ls ≡ false
+
+-- What was sent of a request that may be sent, with no more than the body that it counts, holds no second request.
+abbrev pub HoldsOne : Request → Type 0
+HoldsOne r = (size : ℕ) (body sent tail : List ℕ) → MaySend r size → length body ≤ size → sent ++ tail ≡ text_of r body → IsOneRequest sent

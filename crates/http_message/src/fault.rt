@@ -1,11 +1,11 @@
 // Why bytes are no answer.
-ghost use Rattle.std.specs.Prelude.{◌≡◌};
+ghost use Rattle.std.specs.Prelude.{◌≡◌, IfOk};
 ghost use Rattle.http_message.specs.declared.fault.AnswerFault.TheVariants as short;
 ghost use Rattle.http_message.specs.declared.fault.ExchangeFault.TheVariants as long;
-ghost use Rattle.http_message.specs.Faults.{fault_of};
+ghost use Rattle.http_message.specs.Faults.{fault_of, shown};
 
 use skopeo_outside::{Many, Memory, Step, Text};
-use std::alloc::{AllocError, AllocFailed};
+use std::alloc::{AllocError, AllocFailed, Global};
 
 /// Why the bytes of one conversation give no answer.
 #[derive(Clone, Copy, Debug, PartialEq, Eq)]
@@ -88,4 +88,14 @@ impl ExchangeFault {
             AnswerFault::Memory => ExchangeFault::Memory,
         }
     }
+}
+
+/// The first bytes, at most 64, as a bad answer shows them. The only error is want of memory.
+#[tactic(auto, using(crate::proofs::ShownLemmas::shown_front))]
+pub fn shown(alloc: Global, bytes: &[u8]) -> Result<Many<u8>, Memory>
+    ensures front { IfOk result (λ first. first ≡ shown bytes.now) }
+{
+    let mut first = Many::new(alloc);
+    first.extend(&bytes[..bytes.len().min(64)])?;
+    Ok(first)
 }

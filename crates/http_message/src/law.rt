@@ -3,7 +3,7 @@ ghost use Rattle.std.specs.Prelude.{ℕ, Bool, List};
 ghost use Rattle.skopeo_outside.specs.Wire.{Conversation};
 ghost use Rattle.http_message.specs.declared.request.Request.{Request};
 ghost use Rattle.http_message.specs.Spelling.{OneOutcome, OutcomeStays};
-ghost use Rattle.http_message.specs.Requests.{OneHead, PutsNone, DeletesNone};
+ghost use Rattle.http_message.specs.Requests.{OneHead, PutsNone, DeletesNone, HoldsOne};
 ghost use Rattle.http_message.specs.Writes.{OwnWrites, PutWrites, PlainRequests};
 
 /// All bytes that were received spell at most one outcome. One that they spell before their end, but unfinished, stays
@@ -20,6 +20,12 @@ pub fn one_head()
     ensures head { (r : Request) → OneHead r }
     ensures puts_none { (r : Request) → PutsNone r }
     ensures deletes_none { (r : Request) → DeletesNone r }
+{}
+
+/// What was sent of a request that may be sent, with no more of a body than it counts, holds no second request,
+/// however leniently it is read.
+pub fn one_request()
+    ensures holds { (r : Request) → HoldsOne r }
 {}
 
 /// Where nothing in a request ends a line, it writes no manifest on a wire but its own, a put that tells its body's

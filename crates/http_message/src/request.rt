@@ -1,7 +1,11 @@
 // The head of a request.
-ghost use Rattle.std.specs.Prelude.{◌≡◌, ◌++◌, ◌∷◌, [], ℕ, Bool, List, Option, codes, IfOk, OnOk};
+ghost use Rattle.std.specs.Prelude.{◌≡◌, ◌++◌, ◌∷◌, ◌&&◌, ◌||◌, ◌≤◌, [], ℕ, Bool, true, List, Option, None, codes, nat_le, IfOk, OnOk};
+ghost use Rattle.std.specs.List.{list_all};
+ghost use Rattle.std.specs.Char.{is_ascii_uppercase};
+ghost use Rattle.http_message.specs.Sent.{is_text};
+ghost use Rattle.http_message.specs.Visible.{are_visible};
 ghost use Rattle.http_message.specs.Written.{written};
-ghost use Rattle.http_message.specs.Requests.{first_line, accept_line, type_line, size_line, text_of, manifest_types};
+ghost use Rattle.http_message.specs.Requests.{first_line, accept_line, type_line, size_line, text_of, manifest_types, only_asks, is_visible_type, is_shown, counted, MaySend};
 
 use http::Method;
 use skopeo_outside::{Memory, Text};
@@ -102,4 +106,70 @@ pub fn write_head(alloc: Global, request: &Request) -> Result<Text, Memory>
     push_line(&mut text, "Connection: ", "close")?;
     text.push_str("\r\n")?;
     Ok(text)
+}
+
+/// Whether each byte is visible.
+pub fn are_visible(text: &str) -> bool
+    ensures visible { result ≡ are_visible text.now }
+{
+    text.as_bytes().iter().all(|b| 33 <= *b && *b <= 126)
+}
+
+/// Whether a method is capital letters.
+fn is_capital(method: &Method) -> bool
+    ensures { result ≡ list_all is_ascii_uppercase method.now }
+{
+    method
+        .as_str()
+        .as_bytes()
+        .iter()
+        .all(|b| b.is_ascii_uppercase())
+}
+
+/// Whether the type of a body is visible bytes, where it has one.
+fn is_visible_type(content_type: &Option<Text>) -> bool
+    ensures { result ≡ is_visible_type content_type.now }
+{
+    match content_type {
+        Some(content_type) => are_visible(content_type.as_str()),
+        None => true,
+    }
+}
+
+/// Whether a request is a GET or a HEAD.
+fn only_asks(request: &Request) -> bool
+    ensures { result ≡ only_asks request.now }
+{
+    request.method.as_str() == "GET" || request.method.as_str() == "HEAD"
+}
+
+/// Whether a request counts so many bytes for its body. A GET and a HEAD have none.
+fn counts(request: &Request, size: u64) -> bool
+    ensures counts { result ≡ true → counted request.now.length ≡ size }
+    ensures asks { result ≡ true → only_asks request.now ≡ true → request.now.length ≡ None }
+{
+    match request.length {
+        Some(length) => !only_asks(request) && length == size,
+        None => size == 0,
+    }
+}
+
+/// Whether a method is capital letters, and host, target and type are visible bytes.
+fn is_shown(request: &Request) -> bool
+    ensures { result ≡ is_shown request.now }
+{
+    is_capital(&request.method)
+        && (are_visible(request.host.as_str())
+            && (are_visible(request.target.as_str()) && is_visible_type(&request.content_type)))
+}
+
+/// Whether a request may be sent with a body of so many bytes.
+pub fn may_send(request: &Request, size: u64) -> bool
+    ensures may { result ≡ true → MaySend request.now size }
+    ensures counted { result ≡ true → MaySend request.now (counted request.now.length) }
+{
+    if is_shown(request) {
+        return counts(request, size);
+    }
+    false
 }

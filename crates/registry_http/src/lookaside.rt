@@ -1,5 +1,5 @@
 // The signatures of a manifest at a lookaside base.
-ghost use Rattle.std.specs.Prelude.{◌≡◌, ◌&&◌, ◌≤◌, nat_le, ◌++◌, [], drop, true, nat_eq, codes, IfOk, OnOk, option_map, decimal};
+ghost use Rattle.std.specs.Prelude.{◌≡◌, ◌&&◌, ◌≤◌, nat_le, ◌++◌, [], drop, true, nat_eq, codes, IfOk, OnOk, IsFalse, option_map, decimal};
 ghost use Rattle.std.specs.List.{starts_with};
 ghost use Rattle.hex.specs.Hex.{encode_lower};
 ghost use Rattle.image_ref.specs.Characters.{slash};
@@ -7,6 +7,7 @@ ghost use Rattle.image_ref.specs.Digest.{IsDigest};
 ghost use Rattle.image_ref.specs.Domain.{after};
 ghost use Rattle.image_ref.specs.Reference.{IsPath};
 ghost use Rattle.http_exchange.specs.Locations.{are_visible};
+ghost use Rattle.http_message.specs.Requests.{MaySend};
 ghost use Rattle.http_exchange.specs.Plain.{IsMild, GainsPlain};
 ghost use Rattle.registry_http.specs.Lookaside.{is_base, is_base_cut, signature_path, signature_request, AreGot};
 ghost use Rattle.registry_http.specs.Steps.{CountsStep};
@@ -18,17 +19,10 @@ use crate::requests::request_at;
 use crate::turn::Turn;
 use http::Method;
 use http_exchange::port_of;
-use http_message::Request;
+use http_message::{Request, are_visible};
 use image_ref::{Digest, cut_at, is_domain};
 use skopeo_outside::{Many, Memory, Step, Text, Wire};
 use std::alloc::Global;
-
-/// Whether each byte is visible.
-fn are_visible(text: &str) -> bool
-    ensures { result ≡ are_visible text.now }
-{
-    text.as_bytes().iter().all(|b| 33 <= *b && *b <= 126)
-}
 
 /// Whether a host is one, and the bytes of what follows its slash are visible.
 fn is_base_cut(host: &str, path: Option<&str>) -> bool
@@ -148,6 +142,7 @@ fn signature_request(
     requires path { IsPath path.now }
     ensures request { IfOk result (λ r. r ≡ signature_request base.now path.now digest.now number) }
     ensures mild { IfOk result (λ r. IsMild r []) }
+    ensures may { IfOk result (λ r. MaySend r 0) }
 {
     request_of(alloc, base, path, digest, number)
 }
@@ -165,6 +160,7 @@ fn signatures_behind<W: Wire>(
     requires path { IsPath path.now }
     ensures got { AreGot base.now path.now digest.now found (W.conversations wire.old) (W.conversations wire.new) result }
     ensures plain { GainsPlain (W.conversations wire.old) (W.conversations wire.new) }
+    ensures closed { IsFalse (W.is_open wire.new) }
     ensures faults { CountsStep (W.faults wire.old) (W.faults wire.new) result }
 {
     let request = signature_request(alloc, base, path, digest, found.next());
@@ -189,6 +185,7 @@ pub fn get_signatures<W: Wire>(
     requires path { IsPath path.now }
     ensures got { AreGot base.now path.now digest.now [] (W.conversations wire.old) (W.conversations wire.new) result }
     ensures plain { GainsPlain (W.conversations wire.old) (W.conversations wire.new) }
+    ensures closed { IsFalse (W.is_open wire.new) }
     ensures faults { CountsStep (W.faults wire.old) (W.faults wire.new) result }
 {
     signatures_behind(alloc, wire, base, path, digest, Found::new(alloc))

@@ -14,9 +14,9 @@ ghost use Rattle.registry_http.specs.Rows.{is_success, have_row, mount_row, done
 use crate::fault::RegistryFault;
 use crate::upload::Upload;
 use http_exchange::{Answer, Lead, lead_at, location_in};
-use http_message::{ExchangeFault, Response};
+use http_message::{ExchangeFault, Response, shown};
 use http1::text::eq_ignore_case;
-use skopeo_outside::{Fetched, Many, Memory, Pair, Step, Text};
+use skopeo_outside::{Fetched, Memory, Pair, Step, Text};
 use std::alloc::Global;
 
 /// Whether an answer says yes.
@@ -133,16 +133,6 @@ pub fn blob_row(answer: Result<Answer, ExchangeFault>) -> Result<Answer, Registr
         }
         Err(fault) => Err(RegistryFault::of(fault)),
     }
-}
-
-/// The first bytes of a value that is shown.
-#[tactic(auto, using(crate::proofs::ValueLemmas::shown_front))]
-fn shown(alloc: Global, value: &[u8]) -> Result<Many<u8>, Memory>
-    ensures { IfOk result (λ bytes. bytes ≡ shown value.now) }
-{
-    let mut bytes = Many::new(alloc);
-    bytes.extend(&value[..value.len().min(64)])?;
-    Ok(bytes)
 }
 
 /// The fault of a value that is none of its header.

@@ -1,6 +1,7 @@
 // An upload that was begun.
 ghost use Rattle.std.specs.Prelude.{◌≡◌, ◌≤◌, ℕ, List, length, IfOk};
 ghost use Rattle.registry_http.specs.Places.{Place, IsPlace};
+ghost use Rattle.http_message.specs.Requests.{MaySend};
 ghost use Rattle.http_exchange.specs.Plain.{IsMild};
 ghost use Rattle.registry_http.specs.Requests.{piece_request};
 
@@ -57,6 +58,7 @@ impl Upload {
     pub fn request(&self, alloc: Global, size: u64) -> Result<Request, Memory>
         ensures request { IfOk result (λ r. r ≡ piece_request self.now size) }
         ensures mild { IfOk result (λ r. (body : List ℕ) → length body ≤ size → IsMild r body) }
+        ensures may { IfOk result (λ r. MaySend r size) }
     {
         let mut request = request_at(
             alloc,

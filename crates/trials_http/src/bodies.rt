@@ -1,11 +1,13 @@
 // Bodies that are given piece by piece.
 ghost use Rattle.std.specs.Prelude.{◌≡◌, ◌<◌, length, None, IsTrue};
+ghost use Rattle.http_exchange.specs.Reader.{IsReady};
 
 use crate::exchanges::{WHOLE, request_by};
 use crate::outcomes::{fault_text, push_unless_same};
 use crate::script::wire_to;
 use crate::spelling::{shown, spelled_all};
 use http_exchange::{Answer, next_piece, open};
+use http_message::may_send;
 use skopeo_outside::{Many, Memory, Step, Text, Wire};
 use std::alloc::Global;
 
@@ -16,7 +18,7 @@ fn pieces_of<W: Wire>(
     answer: &mut Answer,
     into: &mut [u8],
 ) -> Result<Text, Memory>
-    requires open { answer.old.reader.failed ≡ None → IsTrue (W.is_open wire.old) }
+    requires open { IsReady answer.old.reader (W.is_open wire.old) }
     requires room { 0 < length into.old }
 {
     let mut body = Many::new(alloc);
@@ -43,6 +45,9 @@ fn given(alloc: Global, input: &str, piece: usize, into: &mut [u8]) -> Result<Te
 {
     let mut wire = wire_to(alloc, spelled_all(alloc, input)?, piece);
     let request = request_by(alloc, "GET")?;
+    if !may_send(&request, 0) {
+        return Err(Memory);
+    }
     match open(alloc, &mut wire, &request, Step::Blob) {
         Ok(mut answer) => {
             let status = answer.status();
@@ -79,7 +84,7 @@ pub fn body(alloc: Global, input: &str) -> Result<Text, Memory> {
 
 /// What four calls give.
 fn four_calls<W: Wire>(alloc: Global, wire: &mut W, answer: &mut Answer) -> Result<Text, Memory>
-    requires open { answer.old.reader.failed ≡ None → IsTrue (W.is_open wire.old) }
+    requires open { IsReady answer.old.reader (W.is_open wire.old) }
 {
     let mut text = Text::new(alloc);
     let mut into = [0; 8];
@@ -99,6 +104,9 @@ fn four_calls<W: Wire>(alloc: Global, wire: &mut W, answer: &mut Answer) -> Resu
 pub fn calls(alloc: Global, input: &str) -> Result<Text, Memory> {
     let mut wire = wire_to(alloc, spelled_all(alloc, input)?, WHOLE);
     let request = request_by(alloc, "GET")?;
+    if !may_send(&request, 0) {
+        return Err(Memory);
+    }
     match open(alloc, &mut wire, &request, Step::Blob) {
         Ok(mut answer) => four_calls(alloc, &mut wire, &mut answer),
         Err(fault) => fault_text(alloc, &fault),

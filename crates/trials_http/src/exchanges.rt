@@ -8,7 +8,7 @@ use crate::script::wire_to;
 use crate::spelling::{shown, spelled, spelled_all};
 use http::Method;
 use http_exchange::{begin, end, exchange, send_piece};
-use http_message::{ExchangeFault, Request};
+use http_message::{ExchangeFault, Request, may_send};
 use skopeo_outside::{Many, Memory, Step, Text, Wire};
 use std::alloc::Global;
 
@@ -44,6 +44,9 @@ fn outcome(
 ) -> Result<Text, Memory> {
     let mut wire = wire_to(alloc, answers, piece);
     let request = request_by(alloc, method)?;
+    if !may_send(&request, 0) {
+        return Err(Memory);
+    }
     let result = exchange(alloc, &mut wire, &request, Step::Blob, &[], limit);
     let mut text = result_text(alloc, &result)?;
     text.push_str(wire.peer().hops.as_str())?;
@@ -75,6 +78,9 @@ pub fn unlimited(alloc: Global, input: &str) -> Result<Text, Memory> {
 pub fn first(alloc: Global, input: &str) -> Result<Text, Memory> {
     let mut wire = wire_to(alloc, spelled_all(alloc, input)?, 7);
     let request = request_by(alloc, "GET")?;
+    if !may_send(&request, 0) {
+        return Err(Memory);
+    }
     match exchange(alloc, &mut wire, &request, Step::Tags, &[], LIMIT) {
         Err(ExchangeFault::BadAnswer(step, bytes)) => {
             let count = bytes.len();
@@ -141,6 +147,9 @@ fn sent_in_pieces<W: Wire>(alloc: Global, wire: &mut W, request: &Request) -> Re
     requires no_get { is_get request.now ≡ false }
     requires no_head { is_text (codes "HEAD") request.now.method ≡ false }
 {
+    if !may_send(request, 6) {
+        return Err(Memory);
+    }
     if let Err(fault) = begin(alloc, wire, request) {
         return fault_text(alloc, &fault);
     }

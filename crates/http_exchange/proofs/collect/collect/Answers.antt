@@ -45,7 +45,7 @@ pieces-preserved g c =
     let fits : length (c.pieces.bytes ++ take c.in_ok-count.count c.read_piece.new.into) ≤ c.args.limit
     = subst (λ (w : List ℕ). length w ≤ c.args.limit) c.in_ok-extend.ensures.ok (omega arith) in
     record {
-      ready = c.in_ok-count.ensures.«open»;
+      ready = c.in_ok-count.ensures.keeps.more some;
       so_far = rw c.in_ok-extend.ensures.ok (collecting_more c.args.limit c.in_ok-count.count c.pieces.bytes c.read_piece.new.into c.pieces.invariant.so_far c.in_ok-count.ensures.piece some fits);
       room = omega (arith, c.read_piece.auto.into);
       faults = omega arith;

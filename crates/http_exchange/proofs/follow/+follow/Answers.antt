@@ -11,9 +11,8 @@ returns-in-Err-clause-chained g t c =
 
 pub returns-in_err-next-clause-chained : goal.returns-in_err-next-clause-chained
 returns-in_err-next-clause-chained g t c =
-    let first = c.first-2.ensures ∙ ap (λ (r : Reader). r.held.first) c.reader.view_is in
     let p = err_from_is_err_and c.from_residual.result c.from_residual.ensures.1 in
-    rw (p.1, p.2) (follow_stops c.args.step c.args.request.now c.args.body.now c.args.left _ _ c.ask.new.reader c.in-Ok.head _ c.in_err-next.field-0.0 first
+    rw (p.1, p.2) (follow_stops c.args.step c.args.request.now c.args.body.now c.args.left _ _ c.ask.new.reader c.in-Ok.head c.in_err-next.field-0.0
     c.in_err-next.ensures.0 c.in_err-next.ensures.1 c.in-Ok.ensures.asked)
 
 pub returns-in-Some-clause-chained : goal.returns-in-Some-clause-chained

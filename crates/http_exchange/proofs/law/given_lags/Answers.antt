@@ -1,0 +1,5 @@
+use Rattle.http_exchange.proofs.LagLaws.{waiting_lags, fault_keeps}
+use Rattle.http_exchange.proofs.law.given_lags.Goals as goal
+
+pub returns : goal.returns
+returns c = record { waiting = waiting_lags; fault = fault_keeps }
