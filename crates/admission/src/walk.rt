@@ -10,14 +10,13 @@ use crate::admitted::admit;
 use crate::found::find_source;
 use crate::parts::{read_parts, require_kind};
 use crate::take::{Taken, take};
-use json_tree::Parsed;
 use policy_file::Policy;
 use skopeo_outside::{Files, Lane, Wire};
 use std::alloc::Global;
 use transports::{CopyPlan, Refusal};
 
 /// Reads the plan's source, and judges the image as it is named.
-#[tactic(auto, using(crate::proofs::AdmitLemmas::memory_says, skopeo_outside::proofs::StepLemmas::given_goes, skopeo_outside::proofs::StepLemmas::given_stops, skopeo_outside::proofs::StepLemmas::given_ends, skopeo_outside::proofs::StepLemmas::then_ends, skopeo_outside::proofs::StepLemmas::then_stops, transports::proofs::HasLemmas::untouched_then, transports::proofs::GivenLemmas::spares_then), unfolding(crate::specs::Walk::admission))]
+#[tactic(auto, using(skopeo_outside::proofs::StepLemmas::given_goes, skopeo_outside::proofs::StepLemmas::given_stops, skopeo_outside::proofs::StepLemmas::given_ends, skopeo_outside::proofs::StepLemmas::then_ends, skopeo_outside::proofs::StepLemmas::then_stops, transports::proofs::HasLemmas::untouched_then, transports::proofs::GivenLemmas::spares_then), unfolding(crate::specs::Walk::admission))]
 pub fn admit_source<W: Wire, F: Files>(
     alloc: Global,
     plan: &CopyPlan,
@@ -29,11 +28,8 @@ pub fn admit_source<W: Wire, F: Files>(
     ensures spares { IfOk result (λ it. Spares it.from lane.old lane.new) }
 {
     let it = find_source(alloc, &plan.source, lane)?;
-    let Ok(parsed) = Parsed::of(alloc, it.fetched.bytes.as_slice()) else {
-        return Err(Refusal::Memory);
-    };
-    let kind = require_kind(alloc, &parsed, &it.fetched)?;
-    let image = read_parts(alloc, kind, &parsed, &it.fetched)?;
+    let kind = require_kind(alloc, &it.fetched)?;
+    let image = read_parts(alloc, kind, &it.fetched)?;
     let signatures = it.from.read_signatures(alloc, lane, None)?;
     let admitted = admit(
         alloc,
