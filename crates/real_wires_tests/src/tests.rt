@@ -24,11 +24,11 @@ fn talks(rt: HostRuntime) -> Result<(), Fail> {
     assert_eq!(rt; wire.send(b"ask"), Ok(()));
     let mut asked = [0u8; 8];
     assert_eq!(rt; peer.read(&mut asked)?, 3);
-    assert_eq!(rt; &asked[..3], b"ask");
+    assert_eq!(rt; &asked[..3], b"ask".as_slice());
     peer.write_all(b"answer")?;
     let mut into = [0u8; 16];
     assert_eq!(rt; wire.recv(&mut into), Ok(6));
-    assert_eq!(rt; &into[..6], b"answer");
+    assert_eq!(rt; &into[..6], b"answer".as_slice());
     drop(peer);
     assert_eq!(rt; wire.recv(&mut into), Ok(0));
     wire.close();
