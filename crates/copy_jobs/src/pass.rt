@@ -92,7 +92,7 @@ fn pass_piece<W: Wire, F: Files>(
 {
     let count = route
         .source
-        .next_piece(lane, route.job, &mut passing.blob, into)?;
+        .next_piece(route.alloc, lane, route.job, &mut passing.blob, into)?;
     passing.digester.feed(&into[..count]);
     let fits = (route.job.size - at).min(count as u64) as usize;
     add_some(lane, route, &mut passing.upload, &into[..fits])?;
