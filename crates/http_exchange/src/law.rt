@@ -1,6 +1,6 @@
 // Laws of the definitions.
 ghost use Rattle.http_exchange.specs.Plain.{PlainExchange, PlainOpening};
-ghost use Rattle.http_exchange.specs.Behind.{WaitingLags, FaultKeeps};
+ghost use Rattle.http_exchange.specs.Behind.{WaitingLags, CallKeeps};
 ghost use Rattle.http_exchange.specs.Joined.{PiecesGiveBody, PiecesGiveFault, PiecesExchange, PiecesFront};
 
 /// What is gained by an exchange, or by an answer that is opened, puts no manifest and deletes nothing, where the
@@ -24,9 +24,9 @@ pub fn sent_pieces()
     ensures front { PiecesFront }
 {}
 
-/// What was given of a body lags behind what was received by no more than what waits. At a fault it is still a front of
-/// the body, and lags by no more than what waited and what that call received.
+/// What was given of a body lags behind what was received by no more than what waits. Behind a call, also at a fault, it
+/// is still a front of the body, and lags by no more than what waited and what that call received.
 pub fn given_lags()
     ensures waiting { WaitingLags }
-    ensures fault { FaultKeeps }
+    ensures call { CallKeeps }
 {}
