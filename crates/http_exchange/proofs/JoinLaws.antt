@@ -1,5 +1,5 @@
 -- What pieces come to together.
-use Rattle.std.proofs.Common.{◌≡◌, ◌-◌, ℕ, inl, Bool, false, ◌&&◌, ◌||◌, List, [], ◌∷◌, ◌++◌, codes, refl, arith, ap, sym, subst, ◌∙◌, append_assoc, Result, Ok, Err}
+use Rattle.std.proofs.Common.{◌≡◌, ◌≤◌, ◌-◌, ℕ, inl, Bool, false, ◌&&◌, ◌||◌, List, [], ◌∷◌, ◌++◌, length, codes, refl, arith, ap, sym, subst, ◌∙◌, append_assoc, Result, Ok, Err}
 use Rattle.skopeo_outside.specs.declared.words.Step.{Step}
 use Rattle.skopeo_outside.specs.Wire.{Conversation, Conversations, Gains, GoesOn, with_sent, with_received}
 use Rattle.skopeo_outside.proofs.WireLemmas.{append_none, gains_on}
@@ -22,9 +22,10 @@ use Rattle.http_exchange.specs.Talk.{is_get, Asks, Comes}
 use Rattle.http_exchange.specs.Asked.{one}
 use Rattle.http_exchange.specs.Chain.{EndsBy, EndsSo, redirects, is_redirect}
 use Rattle.http_exchange.specs.Calls.{Opened, EndedSo, Says}
-use Rattle.http_exchange.specs.Joined.{Pieces, none, more, PiecesGiveBody, PiecesGiveFault, joined, SendsPieces, PiecesExchange, PiecesFront}
+use Rattle.http_exchange.specs.Joined.{Pieces, none, more, PiecesGiveBody, PiecesGiveFault, joined, SendsPieces, PiecesExchange, PiecesFront, PiecesHoldOne, PartHoldsOne}
 use Rattle.http_exchange.proofs.Asking.{text_of-append}
 use Rattle.http_exchange.proofs.Collecting.{or_false}
+use Rattle.http_exchange.proofs.PlainLaws.{gained_one}
 use Rattle.http_exchange.proofs.WholeExchanges.{spells_body, spells_no_body, comes_on}
 
 -- ---- pieces of a body
@@ -170,3 +171,18 @@ pieces_front r pieces piece rest old begun sent new g s part = (
     front = append_assoc (text_of r [] ++ joined pieces) part.sent (part.rest ++ rest)
         ∙ ap (λ (w : List ℕ). (text_of r [] ++ joined pieces) ++ w) (sym (append_assoc part.sent part.rest rest) ∙ ap (λ (w : List ℕ). w ++ rest) part.front)
         ∙ append_assoc (text_of r []) (joined pieces) (piece ++ rest) ∙ text_of-append r [] (joined pieces ++ (piece ++ rest))
+
+-- ---- no second request
+
+pub pieces_hold_one : PiecesHoldOne
+pieces_hold_one r size pieces old begun sent m le g s =
+    gained_one r size (joined pieces) (sending_to r (text_of r [] ++ joined pieces)) old sent m le asks (sends_on r (text_of r []) pieces old begun sent g s)
+  where
+    asks : Asks r (joined pieces) (sending_to r (text_of r [] ++ joined pieces))
+    asks = record { host_is = refl; port_is = refl; rest = []; front = append_none (text_of r [] ++ joined pieces) ∙ text_of-append r [] (joined pieces) }
+
+pub part_holds_one : PartHoldsOne
+part_holds_one r size pieces piece old begun sent new m le g s part =
+    let front = pieces_front r pieces piece [] old begun sent new g s part in
+    gained_one r size (joined pieces ++ (piece ++ [])) front.0 old new m
+    (subst (λ (w : List ℕ). length (joined pieces ++ w) ≤ size) (sym (append_none piece)) le) front.2 front.1

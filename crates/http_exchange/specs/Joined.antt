@@ -6,7 +6,8 @@ use Rattle.http_message.specs.declared.request.Request.{Request}
 use Rattle.http_message.specs.declared.answer.Response.{Response}
 use Rattle.http_message.specs.declared.fault.ExchangeFault.{ExchangeFault}
 use Rattle.http_message.specs.Outcome.{answer}
-use Rattle.http_message.specs.Requests.{text_of}
+use Rattle.http_message.specs.Requests.{text_of, MaySend}
+use Rattle.http_message.specs.OneRequest.{GainsRequests}
 use Rattle.http_message.specs.Sent.{is_text}
 use Rattle.http_message.specs.Spelling.{answer_with}
 use Rattle.http_exchange.specs.Sending.{sending_to}
@@ -57,3 +58,15 @@ abbrev pub PiecesFront : Type 0
 PiecesFront = (r : Request) (pieces : List (List ℕ)) (piece rest : List ℕ) (old begun sent new : Conversations)
     → Gains (sending_to r (text_of r []) ∷ []) old begun → SendsPieces pieces begun sent → SendsPart piece sent new
     → GainsFront r (joined pieces ++ (piece ++ rest)) old new
+
+-- A request that may be sent, was begun, and was sent in pieces that together are no more than it counts, holds no second one,
+-- also where the last piece was sent in part.
+abbrev pub PiecesHoldOne : Type 0
+PiecesHoldOne = (r : Request) (size : ℕ) (pieces : List (List ℕ)) (old begun sent : Conversations)
+    → MaySend r size → length (joined pieces) ≤ size → Gains (sending_to r (text_of r []) ∷ []) old begun → SendsPieces pieces begun sent
+    → GainsRequests old sent
+
+abbrev pub PartHoldsOne : Type 0
+PartHoldsOne = (r : Request) (size : ℕ) (pieces : List (List ℕ)) (piece : List ℕ) (old begun sent new : Conversations)
+    → MaySend r size → length (joined pieces ++ piece) ≤ size → Gains (sending_to r (text_of r []) ∷ []) old begun → SendsPieces pieces begun sent
+    → SendsPart piece sent new → GainsRequests old new

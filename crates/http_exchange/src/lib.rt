@@ -23,4 +23,4 @@ pub use answer::{Answer, close_answer, next_piece, open, read_full};
 pub use exchanging::exchange;
 pub use law::{given_lags, given_pieces, plain_exchanges, sent_pieces};
 pub use location::{Lead, lead_at, location_in, port_of};
-pub use pieces::{begin, end, send_piece};
+pub use pieces::{Unsent, begin, end, send_piece};
