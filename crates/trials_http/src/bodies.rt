@@ -114,12 +114,7 @@ pub fn calls(alloc: Global, input: &str) -> Result<Text, Memory> {
 }
 
 /// How many bytes each call gave, what came behind them, and all these bytes.
-fn counted(
-    alloc: Global,
-    counts: &Text,
-    last: &str,
-    bytes: &Many<u8>,
-) -> Result<Text, Memory> {
+fn counted(alloc: Global, counts: &Text, last: &str, bytes: &Many<u8>) -> Result<Text, Memory> {
     let bytes = shown(bytes.as_slice());
     Ok(Text::from_string(format!(in alloc; "{}{last} {bytes:?}", counts.as_str())?))
 }
@@ -170,12 +165,7 @@ fn filled_by(alloc: Global, input: &str, piece: usize, into: &mut [u8]) -> Resul
 }
 
 /// Adds what calls give that fill `into`, and where it differs what they give when other pieces come.
-fn push_filled(
-    alloc: Global,
-    text: &mut Text,
-    input: &str,
-    into: &mut [u8],
-) -> Result<(), Memory>
+fn push_filled(alloc: Global, text: &mut Text, input: &str, into: &mut [u8]) -> Result<(), Memory>
     requires room { 0 < length into.old }
 {
     let whole = filled_by(alloc, input, WHOLE, into)?;
