@@ -7,27 +7,28 @@ ghost use Rattle.transports.specs.Has.{IsUntouched};
 ghost use Rattle.admission.specs.Walk.{admission};
 
 use crate::admitted::admit;
-use crate::found::find_source;
 use crate::parts::{read_parts, require_kind};
 use crate::take::{Taken, take};
 use policy_file::Policy;
+use registries_conf::Conf;
 use skopeo_outside::{Files, Lane, Wire};
 use std::alloc::Global;
-use transports::{CopyPlan, Refusal};
+use transports::{CopyPlan, Refusal, find_source};
 
 /// Reads the plan's source, and judges the image as it is named.
 #[tactic(auto, using(skopeo_outside::proofs::StepLemmas::given_goes, skopeo_outside::proofs::StepLemmas::given_stops, skopeo_outside::proofs::StepLemmas::given_ends, skopeo_outside::proofs::StepLemmas::then_ends, skopeo_outside::proofs::StepLemmas::then_stops, transports::proofs::HasLemmas::untouched_then, transports::proofs::GivenLemmas::spares_then), unfolding(crate::specs::Walk::admission))]
 pub fn admit_source<W: Wire, F: Files>(
     alloc: Global,
     plan: &CopyPlan,
+    conf: &Conf,
     policy: &Policy,
     lane: &mut Lane<W, F>,
 ) -> Result<Taken, Refusal>
-    ensures ends { Ends lane_course (admission plan.now policy.now) lane.old lane.new result }
+    ensures ends { Ends lane_course (admission plan.now conf.now policy.now) lane.old lane.new result }
     ensures untouched { IsUntouched lane.old lane.new }
     ensures spares { IfOk result (λ it. Spares it.from lane.old lane.new) }
 {
-    let it = find_source(alloc, &plan.source, lane)?;
+    let it = find_source(alloc, plan, conf, lane)?;
     let kind = require_kind(alloc, &it.fetched)?;
     let image = read_parts(alloc, kind, &it.fetched)?;
     let signatures = it.from.read_signatures(alloc, lane, None)?;

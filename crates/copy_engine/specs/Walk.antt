@@ -5,6 +5,7 @@ use Rattle.skopeo_outside.specs.Steps.{◌>>=◌, given}
 use Rattle.skopeo_outside.specs.OnLanes.{SeenStep, on_first}
 use Rattle.digest_reader.specs.declared.job.Job.{Job}
 use Rattle.policy_file.specs.PolicyLists.{PolicyLists}
+use Rattle.registries_conf.specs.Settings.{Settings}
 use Rattle.transports.specs.declared.source.Source.{Source}
 use Rattle.transports.specs.declared.dest.Dest.{Dest}
 use Rattle.transports.specs.declared.plan.CopyPlan.{CopyPlan}
@@ -43,8 +44,8 @@ placing from to image = do
   given (Ok (copied_of image))
 
 -- one image. (Place for instances, each before its list.)
-unfoldable pub image_end : CopyPlan → PolicyLists → SeenStep Refusal Copied
-image_end plan policy = do
+unfoldable pub image_end : CopyPlan → Settings → PolicyLists → SeenStep Refusal Copied
+image_end plan conf policy = do
   to ← given (dest_at plan.dest)
-  it ← on_first lane_course (admission plan policy)
+  it ← on_first lane_course (admission plan conf policy)
   placing it.from to it.image

@@ -71,8 +71,10 @@ pub record AreReceipts (jobs : List Job) (receipts : List Issued) : Type 0 where
 
 -- ---- the same for folders, as a function of one tree
 
--- a lane's files have at the blobs' places what this tree has. (A premise of completeness, and of nothing else.)
+-- a lane's files have at the blobs' places what this tree has. (A premise of completeness, for folders alone,
+-- and of nothing else.)
 unfoldable pub SameBlobs : Source → List Job → Tree → LaneTold → Type 0
+SameBlobs (source.Registry reference) jobs tree lane = ⊥
 SameBlobs (source.Folder path) jobs tree lane = IfSome lane.files.tree (λ t. (k : ℕ) (job : Job) → slice_get jobs k ≡ Some job → file_at t (blob_path path job.digest) ≡ file_at tree (blob_path path job.digest))
 
 abbrev pub or_next : ℕ → Result (List ℕ) Cause → Result ⊤ Refusal → Result ⊤ Refusal

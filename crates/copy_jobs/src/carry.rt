@@ -4,6 +4,7 @@ ghost use Rattle.skopeo_outside.specs.LaneTold.{LaneTold};
 ghost use Rattle.digest_reader.specs.Fed.{HasFed};
 ghost use Rattle.transports.specs.Places.{AreApart};
 ghost use Rattle.transports.specs.StepEnds.{IsDone, FailsBy};
+ghost use Rattle.transports.specs.Given.{Rests};
 ghost use Rattle.transports.specs.Has.{KeepsBlobs};
 ghost use Rattle.transports.specs.Fair.{Works};
 ghost use Rattle.transports.specs.Named.{AddsOnly};
@@ -136,6 +137,25 @@ fn open_and_carry<W: Wire, F: Files>(
     carry_open(lane, route, blob, buffer)
 }
 
+/// The same, and closes the connection to the source, of whose blob no more is wanted.
+#[tactic(auto, using(crate::proofs::CloseLemmas::carries_closed))]
+fn carry_and_close<W: Wire, F: Files>(
+    lane: &mut Lane<W, F>,
+    route: &Route<'_, W, F>,
+    buffer: &mut [u8],
+) -> Result<(), Cause>
+    requires route { IsRoute route.now.source.now route.now.dest.now route.now.job.now route.now.entry.value }
+    requires room { 0 < length buffer.old }
+    requires entry { route.now.entry.value ≡ lane.old }
+    ensures carried { let r = route.now in
+        Carries r.source.now r.dest.now r.job.now r.entry.value lane.new result }
+    ensures rests { Rests route.now.source.now lane.new }
+{
+    let carried = open_and_carry(lane, route, buffer);
+    route.source.close(lane);
+    carried
+}
+
 /// Carries one blob piece by piece through the buffer, which is made where it has no room: the blob is named only where all
 /// of it was compared. Of one that is not whole nothing stays but, after a fault or want of memory, its part.
 #[tactic(auto, using(transports::proofs::SameLemmas::wants_memory, transports::proofs::SameLemmas::works_same, transports::proofs::SameLemmas::keeps_same, transports::proofs::SameLemmas::left_same))]
@@ -155,6 +175,7 @@ pub fn carry_blob<W: Wire, F: Files>(
     ensures dropped { IfErr result (λ e. is_mismatch e ≡ true → GivesUpPart dest.now job.now lane.old lane.new) }
     ensures others { KeepsBlobs dest.now job.now lane.old lane.new }
     ensures works { Works dest.now lane.old lane.new }
+    ensures rests { Rests source.now lane.old → Rests source.now lane.new }
 {
     let _digest = job.digest.as_bytes();
     let _number = lane.number;
@@ -166,5 +187,5 @@ pub fn carry_blob<W: Wire, F: Files>(
         job,
         entry: Snapshot::of(lane),
     };
-    open_and_carry(lane, &route, buffer)
+    carry_and_close(lane, &route, buffer)
 }

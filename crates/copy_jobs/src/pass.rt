@@ -64,6 +64,7 @@ fn add_some<W: Wire, F: Files>(
         (entry : LaneTold) (bytes : List ℕ) → Holds to job upload.old entry lane.old bytes
         → OnlyPart to job lane.old lane.new }
     ensures later { IsLater lane.old lane.new }
+    ensures from { lane.new.from ≡ lane.old.from }
 {
     if piece.is_empty() {
         return Ok(());
@@ -92,7 +93,7 @@ fn pass_piece<W: Wire, F: Files>(
 {
     let count = route
         .source
-        .next_piece(lane, route.job, &mut passing.blob, into)?;
+        .next_piece(route.alloc, lane, route.job, &mut passing.blob, into)?;
     passing.digester.feed(&into[..count]);
     let fits = (route.job.size - at).min(count as u64) as usize;
     add_some(lane, route, &mut passing.upload, &into[..fits])?;

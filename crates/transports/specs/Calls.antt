@@ -5,12 +5,20 @@ use Rattle.skopeo_outside.specs.Tree.{Tree}
 use Rattle.skopeo_outside.specs.LaneTold.{LaneTold}
 use Rattle.skopeo_outside.specs.declared.stop.Stop.{Stop}
 use Rattle.skopeo_outside.specs.declared.stop.Stop.TheVariants as stop
+use Rattle.skopeo_outside.specs.declared.words.Step.TheVariants as step
+use Rattle.skopeo_outside.specs.declared.words.What.TheVariants as what
+use Rattle.digest_reader.specs.declared.job.Job.{Job}
+use Rattle.http_message.specs.declared.fault.ExchangeFault.{ExchangeFault}
+use Rattle.http_message.specs.declared.fault.ExchangeFault.TheVariants as long
+use Rattle.registry_http.specs.declared.fault.RegistryFault.{RegistryFault}
+use Rattle.registry_http.specs.declared.fault.RegistryFault.TheVariants as opening
 use Rattle.layouts.specs.declared.fault.LayoutFault.{LayoutFault}
 use Rattle.layouts.specs.declared.fault.LayoutFault.TheVariants as layout
 use Rattle.copy_workers.specs.declared.cause.Cause.{Cause}
 use Rattle.copy_workers.specs.declared.cause.Cause.TheVariants as cause
 use Rattle.transports.specs.declared.refusal.Refusal.{Refusal}
 use Rattle.transports.specs.declared.refusal.Refusal.TheVariants as refusal
+use Rattle.transports.specs.Registries.{cause_at}
 use Rattle.transports.specs.Given.{refusal_of}
 
 -- the refusal that a stopped call of the files is, with their count of faults
@@ -43,6 +51,25 @@ abbrev pub IsRefusedThere : List ℕ → ℕ → LayoutFault → Refusal → Typ
 IsRefusedThere folder count layout.Files r = r ≡ refusal.Files count
 IsRefusedThere folder count layout.Memory r = r ≡ refusal.Memory
 IsRefusedThere folder count _ r = (r ≡ refusal.Memory) ⊎ (r ≡ refusal.NotAnImageDir folder)
+
+-- the cause of a job that a fault of an exchange is, with the count of the wire's faults
+abbrev pub exchange_by : ℕ → ExchangeFault → Cause
+exchange_by faults (long.BadAnswer s first) = cause.BadAnswer s first
+exchange_by faults long.Wire = cause.Wire faults
+exchange_by faults (long.HeadTooLong n) = cause.TooLarge what.Head n
+exchange_by faults (long.HeadersTooMany n) = cause.TooLarge what.Headers n
+exchange_by faults (long.BodyTooLong n) = cause.TooLarge what.Answer n
+exchange_by faults long.Encoded = cause.Encoded step.Blob
+exchange_by faults long.TooManyRedirects = cause.TooManyRedirects step.Blob
+exchange_by faults (long.TlsRequired host) = cause.TlsRequired host
+exchange_by faults long.Memory = cause.Memory
+
+-- the cause of a job that the fault of its opening at a registry is
+abbrev pub fault_by : Job → ℕ → RegistryFault → Cause
+fault_by job faults (opening.Status s number status) = cause_at job status
+fault_by job faults (opening.TooMany kind n) = cause.TooLarge kind n
+fault_by job faults (opening.Exchange fault) = exchange_by faults fault
+fault_by job faults opening.Memory = cause.Memory
 
 -- of a lane the files alone took part in a call
 pub record OnFiles (old new : LaneTold) : Type 0 where

@@ -2,11 +2,11 @@
 -- that stands above knows of them only these laws:
 --   what a step came to between two states it came to between wider ones (`Spares` before it, anything behind it);
 --   `Spares` is a preorder, and what is done at a destination apart from the source spares the source.
-use Rattle.std.specs.Prelude.{◌≡◌, ◌+◌, ◌≤◌, List, [], ℕ, Option, Some, Result, Ok, Err, IfSome, length, take}
+use Rattle.std.specs.Prelude.{◌≡◌, ◌+◌, ◌≤◌, false, List, [], ℕ, Option, Some, None, Result, Ok, Err, IfSome, length, take}
 use Rattle.skopeo_outside.specs.Tree.{Tree, file_at}
 use Rattle.skopeo_outside.specs.Folders.{joined}
 use Rattle.skopeo_outside.specs.Outside.{Told}
-use Rattle.skopeo_outside.specs.LaneTold.{LaneTold}
+use Rattle.skopeo_outside.specs.LaneTold.{LaneTold, IsLater}
 use Rattle.skopeo_outside.specs.declared.words.Fetched.{Fetched}
 use Rattle.skopeo_outside.specs.declared.words.What.TheVariants as what
 use Rattle.digest_reader.specs.declared.job.Job.{Job}
@@ -22,10 +22,13 @@ use Rattle.copy_workers.specs.declared.cause.Cause.{Cause}
 use Rattle.transports.specs.declared.blob.Blob.{Blob}
 use Rattle.transports.specs.declared.blob.Blob.TheVariants as blob
 use Rattle.transports.specs.declared.source.Source.{Source}
-use Rattle.transports.specs.declared.source.Source.TheVariants.{Folder}
+use Rattle.transports.specs.declared.source.Source.TheVariants.{Folder, Registry}
 use Rattle.transports.specs.declared.refusal.Refusal.{Refusal}
 use Rattle.transports.specs.declared.refusal.Refusal.TheVariants.{NotAnImageDir, TooLarge, Memory}
 use Rattle.transports.specs.Blobs.{looked_at}
+use Rattle.transports.specs.Registries.{request_of, LeadsTo, HasBody, BeginsWith, BlobAt, IsReading}
+use Rattle.transports.specs.Tried.{AsksManifest}
+use Rattle.transports.specs.Within.{Within}
 
 -- the files directly in a folder are as they were
 abbrev pub SameIn : List ℕ → Tree → Tree → Type 0
@@ -34,6 +37,7 @@ SameIn folder old new = (q : List ℕ) → IsIn folder q → file_at new q ≡ f
 -- the source is as it was; what was said to it is still told
 unfoldable pub Spares : Source → LaneTold → LaneTold → Type 0
 Spares (Folder path) old new = Told (SameIn path) old.files.tree new.files.tree
+Spares (Registry r) old new = IsLater old new
 
 -- ---- manifests and signatures
 
@@ -43,9 +47,13 @@ manifest_in folder Absent = Err (NotAnImageDir folder)
 manifest_in folder TooLong = Err (TooLarge what.Manifest (limit + 1))
 manifest_in folder (Whole bytes) = Ok (record { bytes = bytes; content_type = [] })
 
--- how the reading of a manifest ends: the image's own, or that of an instance by its digest
+-- how the reading of a manifest ends: the image's own, or that of an instance by its digest. Why a registry gave none is told
+-- of the attempts. (Place for instances at a registry.)
 unfoldable pub ManifestEnds : Source → Option (List ℕ) → LaneTold → LaneTold → Result Fetched Refusal → Type 0
 ManifestEnds (Folder path) part old new r = IfSome old.files.tree (λ t. r ≡ manifest_in path (limited (file_at t (joined path (manifest_name part)))))
+ManifestEnds (Registry reference) None old new (Ok fetched) = Within (λ a b. AsksManifest reference a b (Ok fetched)) old new
+ManifestEnds (Registry reference) None old new (Err e) = ⊥
+ManifestEnds (Registry reference) (Some digest) old new r = ⊥
 
 -- the refusal that a fault of a folder image is; it answers no fault of another layout
 abbrev pub refusal_of : List ℕ → LayoutFault → Refusal
@@ -57,15 +65,17 @@ abbrev pub by_folder : {A : Type 0} → List ℕ → Result A LayoutFault → Re
 by_folder folder (Ok x) = Ok x
 by_folder folder (Err fault) = Err (refusal_of folder fault)
 
--- how the reading of the signatures ends
+-- how the reading of the signatures ends; no signatures are stored beside an image at a registry yet
 unfoldable pub SignaturesEnd : Source → Option (List ℕ) → LaneTold → LaneTold → Result (List (List ℕ)) Refusal → Type 0
 SignaturesEnd (Folder path) part old new r = IfSome old.files.tree (λ t. r ≡ by_folder path (signatures_in (numbered t path (prefix_of part))))
+SignaturesEnd (Registry reference) part old new r = (r ≡ Ok []) × IsLater old new
 
 -- ---- blobs
 
 -- how the reading of a job's blob ends: its bytes, whole, or the cause
 unfoldable pub BlobEnds : Source → Job → LaneTold → LaneTold → Result (List ℕ) Cause → Type 0
 BlobEnds (Folder path) job old new r = IfSome old.files.tree (λ t. r ≡ looked_at job (file_at t (blob_path path job.digest)))
+BlobEnds (Registry reference) job old new r = Within (λ a b. BlobAt (request_of reference job) job a.from.talks b.from.talks r) old new
 
 -- these are first bytes of a file, which is as it was
 pub record IsFrontIn (path given : List ℕ) (old new : Tree) : Type 0 where
@@ -83,25 +93,33 @@ pub record IsAllIn (path given : List ℕ) (old new : Tree) : Type 0 where
 -- the source gave these first bytes of the job's blob
 unfoldable pub GaveFront : Source → Job → LaneTold → LaneTold → List ℕ → Type 0
 GaveFront (Folder path) job old new given = Told (IsFrontIn (blob_path path job.digest) given) old.files.tree new.files.tree
+GaveFront (Registry reference) job old new given = Within (λ a b. LeadsTo (request_of reference job) (BeginsWith given) a.from.talks b.from.talks) old new
 
 -- and no others are left
 unfoldable pub GaveAll : Source → Job → LaneTold → LaneTold → List ℕ → Type 0
 GaveAll (Folder path) job old new given = Told (IsAllIn (blob_path path job.digest) given) old.files.tree new.files.tree
+GaveAll (Registry reference) job old new given = Within (λ a b. LeadsTo (request_of reference job) (HasBody given) a.from.talks b.from.talks) old new
 
 -- how many bytes a blob that is being read has given
 abbrev pub count_of : Blob → ℕ
 count_of (blob.File path count) = count
+count_of (blob.Answer a count) = count
 
--- the path of a blob's file
-abbrev pub path_of : Blob → List ℕ
-path_of (blob.File path count) = path
-
--- a blob that is being read is this job's at this source
-unfoldable pub IsBlobOf : Source → Job → Blob → Type 0
-IsBlobOf (Folder path) job (blob.File at count) = at ≡ blob_path path job.digest
+-- a blob that is being read is this job's at this source, which gave these first bytes of it
+unfoldable pub IsReadAt : Source → Job → Blob → LaneTold → LaneTold → List ℕ → Type 0
+IsReadAt (Folder path) job (blob.File at count) old new given = at ≡ blob_path path job.digest
+IsReadAt (Folder path) job (blob.Answer a count) old new given = ⊥
+IsReadAt (Registry reference) job (blob.File at count) old new given = ⊥
+IsReadAt (Registry reference) job (blob.Answer a count) old new given = IsReading reference job a given old new
 
 -- the blob gave these first bytes, and gives the next ones behind them
 pub record HasGiven (source : Source) (job : Job) (b : Blob) (old new : LaneTold) (given : List ℕ) : Type 0 where
-  pub of_job : IsBlobOf source job b
+  pub reads : IsReadAt source job b old new given
   pub count : count_of b ≡ length given
   pub front : GaveFront source job old new given
+  pub later : IsLater old new
+
+-- the source holds no connection open
+unfoldable pub Rests : Source → LaneTold → Type 0
+Rests (Folder path) now = Unit {0}
+Rests (Registry reference) now = now.from.is_open ≡ false

@@ -2,6 +2,9 @@ pub mod Places
 pub mod Refusals
 pub mod Courses
 pub mod Blobs
+pub mod Within
+pub mod Registries
+pub mod Tried
 pub mod Given
 pub mod Calls
 pub mod Beside
@@ -10,6 +13,8 @@ pub mod Writes
 pub mod Fair
 pub mod Uploads
 pub mod StepEnds
+pub mod Found
+pub mod Next
 pub mod Named
 pub use Rattle.skopeo_outside.specs.LaneTold.{LaneTold, IsLater}
 pub use Rattle.skopeo_outside.specs.Steps.{Ends, Says}

@@ -1,4 +1,4 @@
--- Which sources and destinations places are. (Each kind that is built is a case here.)
+-- Which destinations places are, and which sources are apart from them. (Each kind that is built is a case here.)
 use Rattle.std.specs.Prelude.{◌≡◌, ◌≢◌, List, ℕ, Result, Ok, Err}
 use Rattle.image_ref.specs.declared.place.Place.{Place}
 use Rattle.image_ref.specs.declared.place.Place.TheVariants.{Docker, Dir, Oci}
@@ -10,12 +10,6 @@ use Rattle.transports.specs.declared.plan.CopyPlan.{CopyPlan}
 use Rattle.transports.specs.declared.refusal.Part.TheVariants as part
 use Rattle.transports.specs.declared.refusal.Refusal.{Refusal}
 use Rattle.transports.specs.declared.refusal.Refusal.TheVariants.{NotBuilt}
-
--- the source that a place is by itself
-abbrev pub source_at : Place → Result Source Refusal
-source_at (Dir path) = Ok (source.Folder path)
-source_at (Oci path name) = Err (NotBuilt part.Place)
-source_at (Docker reference) = Err (NotBuilt part.Place)
 
 -- the destination that a place is
 abbrev pub dest_at : Place → Result Dest Refusal
@@ -29,6 +23,7 @@ GoesTo place to = dest_at place ≡ Ok to
 -- a source and a destination that are not one folder
 unfoldable pub AreApart : Source → Dest → Type 0
 AreApart (source.Folder a) (dest.Folder b) = a ≢ b
+AreApart (source.Registry reference) (dest.Folder b) = Unit {0}
 
 -- a plan whose source and destination are not two `dir` places of one path
 abbrev pub IsBetweenPlaces : CopyPlan → Type 0

@@ -92,6 +92,7 @@ impl Dest {
         ensures part { OnlyPart self.now job.now lane.old lane.new }
         ensures same { OnErr result (lane.new.files.tree ≡ lane.old.files.tree) }
         ensures later { IsLater lane.old lane.new }
+        ensures from { lane.new.from ≡ lane.old.from }
     {
         match self {
             Dest::Folder(folder) => folder_dest::begin_blob(alloc, lane, folder, job),
@@ -116,6 +117,7 @@ impl Dest {
         ensures part { (entry : LaneTold) (bytes : List ℕ) → Holds self.now job.now upload.old entry lane.old bytes
             → OnlyPart self.now job.now lane.old lane.new }
         ensures later { IsLater lane.old lane.new }
+        ensures from { lane.new.from ≡ lane.old.from }
     {
         match self {
             Dest::Folder(folder) => folder_dest::add_piece(alloc, lane, folder, job, upload, piece),
@@ -140,6 +142,7 @@ impl Dest {
         ensures works { Works self.now lane.old lane.new }
         ensures same { OnErr result (lane.new.files.tree ≡ lane.old.files.tree) }
         ensures part { OnErr result (OnlyPart self.now job.now lane.old lane.new) }
+        ensures from { lane.new.from ≡ lane.old.from }
     {
         match self {
             Dest::Folder(folder) => folder_dest::keep_blob(alloc, lane, folder, job, upload),
@@ -161,6 +164,7 @@ impl Dest {
             → OnlyPart self.now job.now lane.old lane.new }
         ensures same { OnErr result (lane.new.files.tree ≡ lane.old.files.tree) }
         ensures later { IsLater lane.old lane.new }
+        ensures from { lane.new.from ≡ lane.old.from }
     {
         match self {
             Dest::Folder(folder) => folder_dest::drop_blob(alloc, lane, folder, job),

@@ -117,6 +117,7 @@ pub(crate) fn begin_blob<W: Wire, F: Files>(
     ensures part { OnlyPart (Folder folder.now) job.now lane.old lane.new }
     ensures same { OnErr result (lane.new.files.tree ≡ lane.old.files.tree) }
     ensures later { IsLater lane.old lane.new }
+    ensures from { lane.new.from ≡ lane.old.from }
 {
     begin_part(alloc, lane, folder, job)?;
     Ok(Upload::File)
@@ -140,6 +141,7 @@ pub(crate) fn add_piece<W: Wire, F: Files>(
     ensures failed { IfErr result (λ e. FailsFreely e lane.old lane.new) }
     ensures part { OnlyPart (Folder folder.now) job.now lane.old lane.new }
     ensures later { IsLater lane.old lane.new }
+    ensures from { lane.new.from ≡ lane.old.from }
 {
     add_part(alloc, lane, folder, job, piece)?;
     Ok(())
@@ -164,6 +166,7 @@ pub(crate) fn keep_blob<W: Wire, F: Files>(
     ensures works { Works (Folder folder.now) lane.old lane.new }
     ensures same { OnErr result (lane.new.files.tree ≡ lane.old.files.tree) }
     ensures part { OnErr result (OnlyPart (Folder folder.now) job.now lane.old lane.new) }
+    ensures from { lane.new.from ≡ lane.old.from }
 {
     keep_part(alloc, lane, folder, job)?;
     Ok(())
@@ -182,6 +185,7 @@ pub(crate) fn drop_blob<W: Wire, F: Files>(
     ensures part { OnlyPart (Folder folder.now) job.now lane.old lane.new }
     ensures same { OnErr result (lane.new.files.tree ≡ lane.old.files.tree) }
     ensures later { IsLater lane.old lane.new }
+    ensures from { lane.new.from ≡ lane.old.from }
 {
     drop_part(alloc, lane, folder, job)?;
     Ok(())

@@ -13,7 +13,9 @@ ghost use Rattle.transports.specs.declared.source.Source.{Source};
 ghost use Rattle.transports.specs.declared.source.Source.TheVariants.{Folder};
 ghost use Rattle.transports.specs.Courses.{lane_course};
 ghost use Rattle.transports.specs.StepEnds.{reading, FailsBy};
-ghost use Rattle.transports.specs.Given.{Spares, ManifestEnds, SignaturesEnd, GaveAll, HasGiven, path_of, count_of, manifest_in};
+ghost use Rattle.transports.specs.declared.blob.Blob.TheVariants as blob;
+ghost use Rattle.transports.specs.Given.{Spares, ManifestEnds, SignaturesEnd, HasGiven, manifest_in};
+ghost use Rattle.transports.specs.Next.{GivesNext};
 ghost use Rattle.transports.specs.Has.{IsUntouched};
 ghost use Rattle.transports.specs.Uploads.{is_mismatch};
 
@@ -109,7 +111,6 @@ pub(crate) fn open_blob<W: Wire, F: Files>(
     ensures failed { IfErr result (λ e. FailsBy (Folder folder.now) job.now e lane.old lane.new) }
     ensures unjudged { IfErr result (λ e. is_mismatch e ≡ false) }
     ensures untouched { IsUntouched lane.old lane.new }
-    ensures spares { Spares (Folder folder.now) lane.old lane.new }
     ensures later { IsLater lane.old lane.new }
 {
     let path = folder.blob_path(alloc, &job.digest)?;
@@ -120,62 +121,29 @@ pub(crate) fn open_blob<W: Wire, F: Files>(
     }
 }
 
-/// The path of a blob's file.
-fn path_of(blob: &Blob) -> &str
-    ensures is { result.now ≡ path_of blob.now }
-{
-    match blob {
-        Blob::File(path, _) => path.as_str(),
-    }
-}
-
-/// How many of its bytes were given.
-fn count_of(blob: &Blob) -> u64
-    ensures is { result ≡ count_of blob.now }
-{
-    match blob {
-        Blob::File(_, count) => *count,
-    }
-}
-
-/// So many more bytes of it were given.
-fn advance(blob: &mut Blob, more: usize)
-    requires few { count_of blob.old + more < 2 ^ 61 }
-    ensures path { path_of blob.new ≡ path_of blob.old }
-    ensures count { count_of blob.new ≡ count_of blob.old + more }
-{
-    match blob {
-        Blob::File(_, count) => *count += more as u64,
-    }
-}
-
 /// The next bytes of a blob's file, of whichever source it is.
-#[tactic(auto, using(crate::proofs::BlobLemmas::files_caused, crate::proofs::BlobLemmas::absent_of, crate::proofs::FolderLemmas::later_by, crate::proofs::FolderLemmas::spares_of, crate::proofs::FolderLemmas::untouched_by))]
+#[tactic(auto, using(crate::proofs::FolderLemmas::later_by, crate::proofs::FolderLemmas::untouched_by))]
 pub(crate) fn next_piece<W: Wire, F: Files>(
     lane: &mut Lane<W, F>,
     job: &Job,
-    blob: &mut Blob,
+    path: &str,
+    given: &mut u64,
     into: &mut [u8],
 ) -> Result<usize, Cause>
     requires room { (0 < length into.old) × (length into.old ≤ 65536) }
-    requires few { count_of blob.old + length into.old < 2 ^ 61 }
+    requires few { given.old + length into.old < 2 ^ 61 }
     ensures count { IfOk result (λ count. count ≤ length into.old) }
-    ensures given { (source : Source) (entry : LaneTold) (given : List ℕ) → HasGiven source job.now blob.old entry lane.old given
-        → IfOk result (λ count. HasGiven source job.now blob.new entry lane.new (given ++ take count into.new)) }
-    ensures last { (source : Source) (entry : LaneTold) (given : List ℕ) → HasGiven source job.now blob.old entry lane.old given
-        → IfOk result (λ count. count ≡ 0 → GaveAll source job.now entry lane.new given) }
-    ensures failed { (source : Source) (entry : LaneTold) (given : List ℕ) → HasGiven source job.now blob.old entry lane.old given
-        → IfErr result (λ e. FailsBy source job.now e lane.old lane.new) }
-    ensures unjudged { IfErr result (λ e. is_mismatch e ≡ false) }
+    ensures gives { (source : Source) (entry : LaneTold) (bytes : List ℕ)
+        → HasGiven source job.now (blob.File path.now given.old) entry lane.old bytes
+        → GivesNext source job.now (blob.File path.now given.new) entry lane.new bytes into.new result }
     ensures untouched { IsUntouched lane.old lane.new }
-    ensures spares { (source : Source) → Spares source lane.old lane.new }
-    ensures later { IsLater lane.old lane.new }
+    ensures number { lane.new.number ≡ lane.old.number }
 {
-    match read_piece(&mut lane.files, path_of(blob), count_of(blob), into) {
+    match read_piece(&mut lane.files, path, *given, into) {
         Err(stop) => return Err(caused_by(stop, lane.files.faults())),
         Ok(None) => return Err(Cause::BlobAbsent(job.digest)),
         Ok(Some(count)) => {
-            advance(blob, count);
+            *given += count as u64;
             Ok(count)
         }
     }

@@ -7,4 +7,6 @@ pub struct CopyPlan {
     pub dest: Place,
     /// How many first lanes do blob jobs, at most.
     pub lanes: u32,
+    /// Whether TLS is verified at the source, where that is said: no source may be asked without it, or each.
+    pub src_tls: Option<bool>,
 }

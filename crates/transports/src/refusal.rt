@@ -2,8 +2,9 @@
 ghost use Rattle.std.specs.Prelude.{◌≡◌};
 ghost use Rattle.transports.specs.declared.refusal.Refusal.TheVariants as refusal;
 
+use crate::attempt::Attempt;
 use copy_workers::Cause;
-use skopeo_outside::{Memory, Text, What};
+use skopeo_outside::{Many, Memory, Text, What};
 
 /// What is not built yet.
 #[derive(Clone, Copy, Debug, PartialEq, Eq)]
@@ -25,6 +26,10 @@ pub enum Why {
 #[derive(Debug, Drop)]
 pub enum Refusal {
     NotBuilt(Part),
+    /// The table of this number, counted from 1, is blocked, and the image is under it.
+    Blocked(u32),
+    /// No source gave the manifest: each in order, with its cause.
+    NoSource(Many<Attempt>),
     /// The folder at this path holds no image, or as a destination something else than an image.
     NotAnImageDir(Text),
     /// So many were come to of what is counted, one more than there may be: bytes, or signatures.

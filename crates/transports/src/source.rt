@@ -1,23 +1,24 @@
 // What a source gives of an image.
-ghost use Rattle.std.specs.Prelude.{◌≡◌, ◌+◌, ◌<◌, ◌≤◌, ◌++◌, ◌^◌, [], List, ℕ, false, Ok, IfOk, IfErr, length, take};
+ghost use Rattle.std.specs.Prelude.{◌≡◌, ◌+◌, ◌<◌, ◌≤◌, ◌^◌, [], List, ℕ, false, IfOk, IfErr, length};
 ghost use Rattle.std.specs.Option.{option_map};
 ghost use Rattle.skopeo_outside.specs.LaneTold.{LaneTold, IsLater};
-ghost use Rattle.skopeo_outside.specs.Steps.{Ends, Says};
-ghost use Rattle.transports.specs.Places.{source_at};
+ghost use Rattle.skopeo_outside.specs.Steps.{Ends};
 ghost use Rattle.transports.specs.Courses.{lane_course};
 ghost use Rattle.transports.specs.StepEnds.{reading, FailsBy};
-ghost use Rattle.transports.specs.Given.{Spares, ManifestEnds, SignaturesEnd, GaveAll, HasGiven, count_of};
+ghost use Rattle.transports.specs.Given.{Spares, SignaturesEnd, HasGiven, Rests, count_of};
 ghost use Rattle.transports.specs.Has.{IsUntouched};
+ghost use Rattle.transports.specs.Next.{IsReadyOn, GivesNext};
+ghost use Rattle.transports.specs.Registries.{IsClosed};
 ghost use Rattle.transports.specs.Uploads.{is_mismatch};
 
 use crate::blob::Blob;
-use crate::folder_source;
-use crate::refusal::{Part, Refusal};
+use crate::refusal::Refusal;
+use crate::{folder_source, registry_source};
 use copy_workers::Cause;
 use digest_reader::Job;
-use image_ref::{Digest, Place};
+use image_ref::{Digest, ImageRef};
 use layouts::DirImage;
-use skopeo_outside::{Fetched, Files, Lane, Many, Wire};
+use skopeo_outside::{Files, Lane, Many, Wire};
 use std::alloc::Global;
 
 /// Where an image comes from, one variant a kind that is built.
@@ -25,39 +26,13 @@ use std::alloc::Global;
 pub enum Source {
     /// A folder of the transport `dir`.
     Folder(DirImage),
+    /// A registry: the location that answered, which may be asked over plain HTTP.
+    Registry(ImageRef),
 }
 
 impl Source {
-    /// The source that a place is by itself.
-    #[tactic(auto, unfolding(skopeo_outside::specs::Steps::Says, crate::specs::Courses::lane_course))]
-    pub fn at(alloc: Global, place: &Place) -> Result<Source, Refusal>
-        ensures says { Says lane_course (source_at place.now) result }
-    {
-        match place {
-            Place::Dir(_) => Ok(Source::Folder(DirImage::open(alloc, place)?)),
-            Place::Docker(_) => Err(Refusal::NotBuilt(Part::Place)),
-            Place::Oci(_, _) => Err(Refusal::NotBuilt(Part::Place)),
-        }
-    }
-
-    /// The image's manifest, or that of its instance with this digest.
-    pub fn read_manifest<W: Wire, F: Files>(
-        &self,
-        alloc: Global,
-        lane: &mut Lane<W, F>,
-        part: Option<&Digest>,
-    ) -> Result<Fetched, Refusal>
-        ensures ends { let digest = option_map (λ d. d.now) part.entry in
-            Ends lane_course (reading (ManifestEnds self.now digest)) lane.old lane.new result }
-        ensures untouched { IsUntouched lane.old lane.new }
-        ensures spares { Spares self.now lane.old lane.new }
-    {
-        match self {
-            Source::Folder(folder) => folder_source::read_manifest(alloc, lane, folder, part),
-        }
-    }
-
-    /// The image's signatures, or those of its instance with this digest.
+    /// The image's signatures, or those of its instance with this digest. Beside an image at a registry none are stored yet.
+    #[tactic(auto, using(crate::proofs::SameLemmas::untouched_same, crate::proofs::SameLemmas::spares_same, crate::proofs::RegistryLemmas::no_signatures))]
     pub fn read_signatures<W: Wire, F: Files>(
         &self,
         alloc: Global,
@@ -71,6 +46,7 @@ impl Source {
     {
         match self {
             Source::Folder(folder) => folder_source::read_signatures(alloc, lane, folder, part),
+            Source::Registry(_) => Ok(Many::new(alloc)),
         }
     }
 
@@ -85,17 +61,21 @@ impl Source {
         ensures failed { IfErr result (λ e. FailsBy self.now job.now e lane.old lane.new) }
         ensures unjudged { IfErr result (λ e. is_mismatch e ≡ false) }
         ensures untouched { IsUntouched lane.old lane.new }
-        ensures spares { Spares self.now lane.old lane.new }
         ensures later { IsLater lane.old lane.new }
     {
         match self {
             Source::Folder(folder) => folder_source::open_blob(alloc, lane, folder, job),
+            Source::Registry(reference) => {
+                registry_source::open_blob(alloc, lane, reference, job)
+            }
         }
     }
 
-    /// Reads the next 1 to 65,536 bytes of a job's blob, and says how many; 0 only at its end.
+    /// Reads the next 1 to 65,536 bytes of a job's blob, and says how many; 0 only at its end. The wire of an answer is to be
+    /// the one that it was opened on, and not to be used in between.
     pub fn next_piece<W: Wire, F: Files>(
         &self,
+        alloc: Global,
         lane: &mut Lane<W, F>,
         job: &Job,
         blob: &mut Blob,
@@ -103,20 +83,32 @@ impl Source {
     ) -> Result<usize, Cause>
         requires room { (0 < length into.old) × (length into.old ≤ 65536) }
         requires few { count_of blob.old + length into.old < 2 ^ 61 }
+        requires ready { IsReadyOn blob.old lane.old }
         ensures count { IfOk result (λ count. count ≤ length into.old) }
-        ensures given { (entry : LaneTold) (given : List ℕ) → HasGiven self.now job.now blob.old entry lane.old given
-            → IfOk result (λ count. HasGiven self.now job.now blob.new entry lane.new (given ++ take count into.new)) }
-        ensures last { (entry : LaneTold) (given : List ℕ) → HasGiven self.now job.now blob.old entry lane.old given
-            → IfOk result (λ count. count ≡ 0 → GaveAll self.now job.now entry lane.new given) }
-        ensures failed { (entry : LaneTold) (given : List ℕ) → HasGiven self.now job.now blob.old entry lane.old given
-            → IfErr result (λ e. FailsBy self.now job.now e lane.old lane.new) }
-        ensures unjudged { IfErr result (λ e. is_mismatch e ≡ false) }
+        ensures gives { (entry : LaneTold) (given : List ℕ) → HasGiven self.now job.now blob.old entry lane.old given
+            → GivesNext self.now job.now blob.new entry lane.new given into.new result }
         ensures untouched { IsUntouched lane.old lane.new }
-        ensures spares { Spares self.now lane.old lane.new }
-        ensures later { IsLater lane.old lane.new }
+        ensures number { lane.new.number ≡ lane.old.number }
+    {
+        match blob {
+            Blob::File(path, count) => {
+                folder_source::next_piece(lane, job, path.as_str(), count, into)
+            }
+            Blob::Answer(answer, count) => {
+                registry_source::next_piece(alloc, lane, answer, count, into)
+            }
+        }
+    }
+
+    /// Closes the connection of a source of which no more is wanted.
+    #[tactic(auto, using(crate::proofs::RegistryLemmas::rests_folder, crate::proofs::RegistryLemmas::rests_closed))]
+    pub fn close<W: Wire, F: Files>(&self, lane: &mut Lane<W, F>)
+        ensures rests { Rests self.now lane.new }
+        ensures same { IsClosed lane.old lane.new }
     {
         match self {
-            Source::Folder(_) => folder_source::next_piece(lane, job, blob, into),
+            Source::Folder(_) => {}
+            Source::Registry(_) => lane.from.close(),
         }
     }
 }
