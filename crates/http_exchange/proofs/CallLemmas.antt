@@ -1,5 +1,5 @@
 -- The public calls, from what they are made of.
-use Rattle.std.proofs.Common.{◌≡◌, ◌≢◌, ◌⊎◌, inl, inr, ℕ, false, ◌||◌, List, [], ◌++◌, refl, ap, sym, subst, ◌∙◌, Ok, Err, Option, Some, None, IfSome}
+use Rattle.std.proofs.Common.{◌≡◌, ◌≢◌, ◌⊎◌, inl, inr, ℕ, Bool, false, ◌||◌, List, [], ◌++◌, refl, ap, sym, subst, ◌∙◌, Ok, Err, Option, Some, None, IfSome, MatchOption}
 use Rattle.skopeo_outside.specs.declared.stop.Stop.{Stop}
 use Rattle.skopeo_outside.specs.declared.stop.Stop.TheVariants.{Fault, Memory as Want}
 use Rattle.skopeo_outside.specs.declared.words.Step.{Step}
@@ -17,7 +17,9 @@ use Rattle.http_message.specs.Shown.{Shows, answer_of}
 use Rattle.http_message.specs.Spelling.{Spells, behind_head, bare, answer_with}
 use Rattle.http_exchange.specs.declared.opening.Opening.{Opening}
 use Rattle.http_exchange.specs.Received.{Held, Notes, Receives, empty}
-use Rattle.http_exchange.specs.Reader.{Reader, NextPiece}
+use Rattle.http_message.specs.declared.framing.Framing.{Framing}
+use Rattle.http_exchange.specs.Reader.{Reader, NextPiece, Stands, Streams}
+use Rattle.http_exchange.specs.Filling.{Fills}
 use Rattle.http_exchange.specs.Streaming.{IsNoBody}
 use Rattle.http_exchange.specs.Opening.{OpeningFound, NoOpening}
 use Rattle.http_exchange.specs.Sending.{FailsSending}
@@ -117,15 +119,33 @@ piece_fault a b before mid after r into fault s was status step status' step' he
   ended = q.ended;
   told = q.told;
   noted = subst (λ (h : Held). Notes before.reader.held.first q.added h.first) (sym held) q.noted;
-  more = tt;
   piece = λ f given seen w st.
       subst (λ (h : Held). Says after.step h.first (λ o. IsNoBody f given o (seen ++ q.added) (q.ended || w)) s) (sym held)
       (subst (λ (x : Step). Says x mid.reader.held.first (λ o. IsNoBody f given o (seen ++ q.added) (q.ended || w)) s) (sym step')
       (shown_says mid.step mid.reader.held.first fault s (λ (o : Outcome). IsNoBody f given o (seen ++ q.added) (q.ended || w)) is (q.next f given seen w st)));
   streams = λ f given seen w st. tt;
-  alive = tt;
   same = (status' ∙ status, step' ∙ step);
 }
   where
     q : NextPiece a b before.reader mid.reader into (Err fault)
     q = subst (λ (x : Reader). NextPiece a b x mid.reader into (Err fault)) was p
+
+-- ---- a reader that has not failed, and one that did
+
+pub streams_alive : (r : Reader) (f : Framing) (given seen : List ℕ) (was : Bool) → r.failed ≡ None → Stands r.state f given seen was r.held.waiting → Streams r f given seen was
+streams_alive r f given seen was alive st =
+    subst (λ (x : Option AnswerFault). MatchOption x (Stands r.state f given seen was r.held.waiting) (λ e. IfSome (outcome_of e) (λ o. IsNoBody f given o seen was))) (sym alive) st
+
+pub fill_stops : {a b : Conversations} {before after : Reader} (into : List ℕ) (fault : AnswerFault) → Fills a b before after into (Err fault)
+    → NextPiece a b before after into (Err fault)
+fill_stops into fault p = record {
+  added = p.added;
+  ended = p.ended;
+  told = p.told;
+  noted = p.noted;
+  room = tt;
+  more = tt;
+  next = λ f given seen w st. p.filled f given seen w st;
+  alive = tt;
+  stays = p.stays;
+}

@@ -23,7 +23,7 @@ use Rattle.http_exchange.proofs.ChunkRuns.{line-append, chunks-append, last-appe
 use Rattle.http_exchange.proofs.Settling.{still, or_was, no_chunked, too_few, stands_same, whole_content}
 
 -- a piece of some bytes is none
-some_piece : (n : ℕ) (into : List ℕ) → 0 < n → n ≤ length into → take n into ≡ [] → ⊥
+pub some_piece : (n : ℕ) (into : List ℕ) → 0 < n → n ≤ length into → take n into ≡ [] → ⊥
 some_piece n into some le e = omega (arith, some, length-take n into, ap (λ (w : List ℕ). length w) e)
 
 -- what came is what was given, the piece, and what waits
@@ -69,7 +69,7 @@ chunk_front f left given seen waiting is c = record { front = λ limit more body
         (whole_content c.here c.part waiting more c.n c.size c.line c.content) (omega (arith, c.left_is)) b in
         (q.0, q.1 ∙ ap (λ (w : List ℕ). w ++ q.0) (sym c.given_is))
 
-body_front : (f : Framing) (given seen : List ℕ) (was : Bool) → IsBody f given seen was → IsFront f given seen
+pub body_front : (f : Framing) (given seen : List ℕ) (was : Bool) → IsBody f given seen was → IsFront f given seen
 body_front Wrong given seen was is = absurd (is.whole (length given) (omega arith))
 body_front (Sized size) given seen was is =
     let b = is.whole (length given) (omega arith) in
@@ -189,7 +189,7 @@ open_gave {a} {b} {h} {k} most n into some q = record {
 }
 
 -- nothing was given, so no limit is passed
-none_passed : (f : Framing) (given seen : List ℕ) (ended : Bool) → IsPassed f given [] seen ended
+pub none_passed : (f : Framing) (given seen : List ℕ) (ended : Bool) → IsPassed f given [] seen ended
 none_passed f given seen ended = record { passed = λ limit fits over. absurd (omega (arith, fits, over, ap (λ (w : List ℕ). length w) (append_none given))) }
 
 -- the whole body was given, and nothing more

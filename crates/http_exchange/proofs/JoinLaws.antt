@@ -1,7 +1,7 @@
 -- What pieces come to together.
-use Rattle.std.proofs.Common.{◌≡◌, ◌≤◌, ◌-◌, ℕ, ◌⊎◌, inl, inr, Bool, false, ◌&&◌, ◌||◌, List, [], ◌∷◌, ◌++◌, length, take, codes, refl, arith, ap, sym, subst, ◌∙◌, append_assoc, Result, Ok, Err}
+use Rattle.std.proofs.Common.{◌≡◌, ◌≤◌, ◌-◌, ℕ, inl, Bool, false, ◌&&◌, ◌||◌, List, [], ◌∷◌, ◌++◌, length, codes, refl, arith, ap, sym, subst, ◌∙◌, append_assoc, Result, Ok, Err}
 use Rattle.skopeo_outside.specs.declared.words.Step.{Step}
-use Rattle.skopeo_outside.specs.Wire.{Conversation, Conversations, Gains, GoesOn, SendsPart, with_sent, with_received}
+use Rattle.skopeo_outside.specs.Wire.{Conversation, Conversations, Gains, GoesOn, with_sent, with_received}
 use Rattle.skopeo_outside.proofs.WireLemmas.{append_none, gains_on}
 use Rattle.http_message.specs.declared.request.Request.{Request}
 use Rattle.http_message.specs.declared.answer.Response.{Response}
@@ -17,38 +17,37 @@ use Rattle.http_message.specs.Spelling.{Spells, answer_with}
 use Rattle.http_exchange.specs.Reader.{Streams}
 use Rattle.http_exchange.specs.Streaming.{IsBody, IsNoBody}
 use Rattle.http_exchange.specs.Opening.{body_framing}
-use Rattle.http_exchange.specs.Sending.{sending_to, host_name}
+use Rattle.http_exchange.specs.Sending.{sending_to}
 use Rattle.http_exchange.specs.Talk.{is_get, Asks, Comes}
 use Rattle.http_exchange.specs.Asked.{one}
-use Rattle.http_exchange.specs.Chain.{Exchanges, EndsBy, EndsSo, redirects, is_redirect}
-use Rattle.http_exchange.specs.Calls.{Opened, IsOpened, GivesPiece, Ends, EndedSo, Says}
-use Rattle.http_exchange.specs.Joined.{Pieces, none, more, PiecesGiveBody, PiecesGiveFault, joined, SendsPieces, PiecesExchange, PiecesFront}
+use Rattle.http_exchange.specs.Chain.{EndsBy, EndsSo, redirects, is_redirect}
+use Rattle.http_exchange.specs.Calls.{Opened, EndedSo, Says}
+use Rattle.http_exchange.specs.Joined.{Pieces, none, more, PiecesGiveBody, PiecesGiveFault, joined, SendsPieces, PiecesExchange, PiecesFront, PiecesHoldOne, PartHoldsOne}
 use Rattle.http_exchange.proofs.Asking.{text_of-append}
 use Rattle.http_exchange.proofs.Collecting.{or_false}
+use Rattle.http_exchange.proofs.PlainLaws.{gained_one}
 use Rattle.http_exchange.proofs.WholeExchanges.{spells_body, spells_no_body, comes_on}
 
 -- ---- pieces of a body
 
-streams_on : (a : Opened) (old : Conversations) (b : Opened) (new : Conversations) (given added rest : List ℕ) (f : Framing) → Pieces a old given added b new
-    → Streams a.reader f [] rest false → Streams b.reader f given (rest ++ added) false
-streams_on a old b new given added rest f none st = subst (λ (w : List ℕ). Streams a.reader f [] w false) (sym (append_none rest)) st
-streams_on a old b new given added rest f (more given1 added1 into n b1 c mid new1 before g still) st =
-    subst (λ (w : List ℕ). Streams b.reader f given w false) (append_assoc rest added1 g.added)
-    (subst (λ (t : Bool). Streams b.reader f given ((rest ++ added1) ++ g.added) t) (ap (λ (t : Bool). t || false) still)
-    (g.streams f given1 (rest ++ added1) false (streams_on a old b1 mid given1 added1 rest f before st)))
+streams_on : (a : Opened) (old : Conversations) (b : Opened) (new : Conversations) (given added rest : List ℕ) (ended : Bool) (f : Framing)
+    → Pieces a old given added ended b new → Streams a.reader f [] rest false → Streams b.reader f given (rest ++ added) ended
+streams_on a old b new given added rest ended f none st = subst (λ (w : List ℕ). Streams a.reader f [] w false) (sym (append_none rest)) st
+streams_on a old b new given added rest ended f (more given1 added1 into was n b1 c mid new1 before g) st =
+    subst (λ (w : List ℕ). Streams b.reader f given w (g.ended || was)) (append_assoc rest added1 g.added)
+    (g.streams f given1 (rest ++ added1) was (streams_on a old b1 mid given1 added1 rest was f before st))
 
 pub pieces_give_body : PiecesGiveBody
-pieces_give_body step r a b d c given added into limit old mid new o pieces g fits =
-    comes_on r [] o.h o.rest c limit (added ++ g.added) g.ended (answer (answer_with o.h given)) o.opens o.more
-    (spells_body r [] o.h o.rest c limit (added ++ g.added) given g.ended o.opens (body.whole limit fits))
+pieces_give_body step r a b d c given added into ended limit old mid new o pieces g fits =
+    comes_on r [] o.h o.rest c limit (added ++ g.added) (g.ended || ended) (answer (answer_with o.h given)) o.opens o.more
+    (spells_body r [] o.h o.rest c limit (added ++ g.added) given (g.ended || ended) o.opens (body.whole limit fits))
   where
     f : Framing
     f = body_framing (is_get r) o.h
 
-    body : IsBody f given (o.rest ++ (added ++ g.added)) g.ended
-    body = subst (λ (w : List ℕ). IsBody f given w g.ended) (append_assoc o.rest added g.added)
-        (subst (λ (t : Bool). IsBody f given ((o.rest ++ added) ++ g.added) t) (or_false g.ended)
-        ((g.piece f given (o.rest ++ added) false (streams_on a old b mid given added o.rest f pieces o.streams)).whole refl))
+    body : IsBody f given (o.rest ++ (added ++ g.added)) (g.ended || ended)
+    body = subst (λ (w : List ℕ). IsBody f given w (g.ended || ended)) (append_assoc o.rest added g.added)
+        ((g.piece f given (o.rest ++ added) ended (streams_on a old b mid given added o.rest ended f pieces o.streams)).whole refl)
 
 says_on : (step : Step) (first : List ℕ) (fault : ExchangeFault) (P Q : Outcome → Type 0) → ((o : Outcome) → P o → Q o) → Says step first P fault → Says step first Q fault
 says_on step first (long.BadAnswer s w) P Q f h = (h.0, h.1, f _ h.2)
@@ -62,20 +61,20 @@ says_on step first (long.TlsRequired host) P Q f h = h
 says_on step first long.Memory P Q f h = h
 
 pub pieces_give_fault : PiecesGiveFault
-pieces_give_fault step r a b d c given added into limit old mid new fault o pieces g fits =
-    says_on d.step d.reader.held.first fault (λ (u : Outcome). IsNoBody f given u ((o.rest ++ added) ++ g.added) (g.ended || false))
-    (λ (u : Outcome). Comes r [] limit u (with_received (added ++ g.added) g.ended c)) comes
-    (g.piece f given (o.rest ++ added) false (streams_on a old b mid given added o.rest f pieces o.streams))
+pieces_give_fault step r a b d c given added into ended limit old mid new fault o pieces g fits =
+    says_on d.step d.reader.held.first fault (λ (u : Outcome). IsNoBody f given u ((o.rest ++ added) ++ g.added) (g.ended || ended))
+    (λ (u : Outcome). Comes r [] limit u (with_received (added ++ g.added) (g.ended || ended) c)) comes
+    (g.piece f given (o.rest ++ added) ended (streams_on a old b mid given added o.rest ended f pieces o.streams))
   where
     f : Framing
     f = body_framing (is_get r) o.h
 
-    comes : (u : Outcome) → IsNoBody f given u ((o.rest ++ added) ++ g.added) (g.ended || false) → Comes r [] limit u (with_received (added ++ g.added) g.ended c)
+    comes : (u : Outcome) → IsNoBody f given u ((o.rest ++ added) ++ g.added) (g.ended || ended)
+        → Comes r [] limit u (with_received (added ++ g.added) (g.ended || ended) c)
     comes u n =
-        comes_on r [] o.h o.rest c limit (added ++ g.added) g.ended u o.opens o.more
-        (spells_no_body r [] o.h o.rest c limit (added ++ g.added) g.ended u o.opens
-        ((subst (λ (w : List ℕ). IsNoBody f given u w g.ended) (append_assoc o.rest added g.added)
-        (subst (λ (t : Bool). IsNoBody f given u ((o.rest ++ added) ++ g.added) t) (or_false g.ended) n)).none limit fits))
+        comes_on r [] o.h o.rest c limit (added ++ g.added) (g.ended || ended) u o.opens o.more
+        (spells_no_body r [] o.h o.rest c limit (added ++ g.added) (g.ended || ended) u o.opens
+        ((subst (λ (w : List ℕ). IsNoBody f given u w (g.ended || ended)) (append_assoc o.rest added g.added) n).none limit fits))
 
 -- ---- pieces of a request
 
@@ -172,3 +171,18 @@ pieces_front r pieces piece rest old begun sent new g s part = (
     front = append_assoc (text_of r [] ++ joined pieces) part.sent (part.rest ++ rest)
         ∙ ap (λ (w : List ℕ). (text_of r [] ++ joined pieces) ++ w) (sym (append_assoc part.sent part.rest rest) ∙ ap (λ (w : List ℕ). w ++ rest) part.front)
         ∙ append_assoc (text_of r []) (joined pieces) (piece ++ rest) ∙ text_of-append r [] (joined pieces ++ (piece ++ rest))
+
+-- ---- no second request
+
+pub pieces_hold_one : PiecesHoldOne
+pieces_hold_one r size pieces old begun sent m le g s =
+    gained_one r size (joined pieces) (sending_to r (text_of r [] ++ joined pieces)) old sent m le asks (sends_on r (text_of r []) pieces old begun sent g s)
+  where
+    asks : Asks r (joined pieces) (sending_to r (text_of r [] ++ joined pieces))
+    asks = record { host_is = refl; port_is = refl; rest = []; front = append_none (text_of r [] ++ joined pieces) ∙ text_of-append r [] (joined pieces) }
+
+pub part_holds_one : PartHoldsOne
+part_holds_one r size pieces piece old begun sent new m le g s part =
+    let front = pieces_front r pieces piece [] old begun sent new g s part in
+    gained_one r size (joined pieces ++ (piece ++ [])) front.0 old new m
+    (subst (λ (w : List ℕ). length (joined pieces ++ w) ≤ size) (sym (append_none piece)) le) front.2 front.1

@@ -1,8 +1,8 @@
 -- What was given of a body is a front of it, and lags by what waits.
-use Rattle.std.proofs.Common.{◌≡◌, ℕ, suc, zero, ◌+◌, ◌-◌, ◌<◌, ◌≤◌, ◌⊎◌, inl, inr, Bool, true, false, ◌||◌, List, [], ◌++◌, length, length-append, length-take, length-drop, take, drop, refl, arith, ap, sym, subst, ◌∙◌, append_assoc, Option, None, IfSome, MatchOption}
+use Rattle.std.proofs.Common.{◌≡◌, ℕ, suc, zero, ◌+◌, ◌<◌, ◌≤◌, ◌⊎◌, inl, inr, Bool, false, List, ◌++◌, length, length-append, length-take, length-drop, take, drop, refl, arith, ap, subst, ◌∙◌, append_assoc, Option, None, IfSome, MatchOption}
 use Rattle.http_message.specs.declared.fault.AnswerFault.{AnswerFault}
 use Rattle.http_message.specs.declared.framing.Framing.{Framing}
-use Rattle.http_message.specs.declared.framing.Framing.TheVariants.{Sized, Chunked, ToEnd}
+use Rattle.http_message.specs.declared.framing.Framing.TheVariants.{Sized, ToEnd}
 use Rattle.http_message.specs.Outcome.{outcome_of}
 use Rattle.http_message.specs.Chunks.{StartsWithChunkLine}
 use Rattle.http_message.specs.ChunkedBody.{OneChunk, Chunks, ChunkedBody}
@@ -13,10 +13,10 @@ use Rattle.http_exchange.specs.declared.state.State.{State}
 use Rattle.http_exchange.specs.declared.state.State.TheVariants.{Left, Open, Line, Chunk, Over}
 use Rattle.http_exchange.specs.Streaming.{IsFront, IsNoBody}
 use Rattle.http_exchange.specs.Reader.{Reader, InChunk, Stands, Streams, is_over}
-use Rattle.http_exchange.specs.Behind.{IsBehind, GoesOnGiving, WaitingLags, FaultKeeps}
+use Rattle.http_exchange.specs.Behind.{IsBehind, WaitingLags, CallKeeps}
 use Rattle.http_exchange.proofs.ChunkRuns.{line-append, chunks-append, chunks_same, longer, chunks_front}
 use Rattle.http_exchange.proofs.Settling.{whole_content}
-use Rattle.http_exchange.proofs.Giving.{sized_front, open_front, chunk_front}
+use Rattle.http_exchange.proofs.Giving.{sized_front, open_front, chunk_front, body_front}
 
 -- ---- how long runs of chunks are
 
@@ -85,15 +85,15 @@ chunk_behind limit count all had here body n size p line some is = by_order (le_
 
 -- ---- where a reader stands
 
-stands_front : (s : State) (f : Framing) (given seen waiting : List ℕ) → is_over s ≡ false → Stands s f given seen false waiting → IsFront f given seen
-stands_front (Left left) f given seen waiting o st = sized_front f (length given + left) left given waiting seen st.0 st.1 refl
-stands_front Open f given seen waiting o st = open_front f given waiting seen st.0 st.1
-stands_front Line f given seen waiting o st = record { front = λ limit more body ended b. by_body limit more body (subst (λ (g : Framing). FramedBody g limit body (seen ++ more) ended) st.0 b) }
+pub stands_front : (s : State) (f : Framing) (given seen waiting : List ℕ) (was : Bool) → Stands s f given seen was waiting → IsFront f given seen
+stands_front (Left left) f given seen waiting was st = sized_front f (length given + left) left given waiting seen st.0 st.1 refl
+stands_front Open f given seen waiting was st = open_front f given waiting seen st.0 st.1
+stands_front Line f given seen waiting was st = record { front = λ limit more body ended b. by_body limit more body (subst (λ (g : Framing). FramedBody g limit body (seen ++ more) ended) st.0 b) }
   where
     by_body : (limit : ℕ) (more body : List ℕ) → ChunkedBody limit body (seen ++ more) → (tail : List ℕ) × (body ≡ given ++ tail)
     by_body limit more body b = chunks_front limit st.1.0 (seen ++ more) given (waiting ++ more) body (chunks-append st.1.0 seen more given waiting st.1.1) b
-stands_front (Chunk left) f given seen waiting o st = chunk_front f left given seen waiting st.0 st.1
-stands_front Over f given seen waiting o st = cc
+stands_front (Chunk left) f given seen waiting was st = chunk_front f left given seen waiting st.0 st.1
+stands_front Over f given seen waiting was st = body_front f given seen was st
 
 stands_behind : (s : State) (f : Framing) (given seen waiting : List ℕ) → is_over s ≡ false → Stands s f given seen false waiting → IsBehind f given seen (length waiting)
 stands_behind (Left left) f given seen waiting o st =
@@ -147,13 +147,13 @@ stands_behind (Chunk left) f given seen waiting o st =
     )
 stands_behind Over f given seen waiting o st = cc
 
-stands_of : (r : Reader) (f : Framing) (given seen : List ℕ) → r.failed ≡ None → Streams r f given seen false → Stands r.state f given seen false r.held.waiting
-stands_of r f given seen alive st =
-    subst (λ (x : Option AnswerFault). MatchOption x (Stands r.state f given seen false r.held.waiting) (λ e. IfSome (outcome_of e) (λ o. IsNoBody f given o seen false))) alive st
+pub stands_of : (r : Reader) (f : Framing) (given seen : List ℕ) (was : Bool) → r.failed ≡ None → Streams r f given seen was → Stands r.state f given seen was r.held.waiting
+stands_of r f given seen was alive st =
+    subst (λ (x : Option AnswerFault). MatchOption x (Stands r.state f given seen was r.held.waiting) (λ e. IfSome (outcome_of e) (λ o. IsNoBody f given o seen was))) alive st
 
 -- ---- with more behind
 
-front_more : (f : Framing) (given seen added : List ℕ) → IsFront f given seen → IsFront f given (seen ++ added)
+pub front_more : (f : Framing) (given seen added : List ℕ) → IsFront f given seen → IsFront f given (seen ++ added)
 front_more f given seen added is = record {
   front = λ limit more body ended b. is.front limit (added ++ more) body ended (subst (λ (w : List ℕ). FramedBody f limit body w ended) (append_assoc seen added more) b);
 }
@@ -171,11 +171,11 @@ behind_more f given seen added most is = record {
 
 pub waiting_lags : WaitingLags
 waiting_lags a f given seen on st =
-    stands_behind a.reader.state f given seen a.reader.held.waiting on.more (stands_of a.reader f given seen on.alive st)
+    stands_behind a.reader.state f given seen a.reader.held.waiting on.more (stands_of a.reader f given seen false on.alive st)
 
-pub fault_keeps : FaultKeeps
-fault_keeps before after into old new fault f given seen on st g =
-    let stands = stands_of before.reader f given seen on.alive st in (
-      front_more f given seen g.added (stands_front before.reader.state f given seen before.reader.held.waiting on.more stands),
+pub call_keeps : CallKeeps
+call_keeps before after into old new result f given seen on st g =
+    let stands = stands_of before.reader f given seen false on.alive st in (
+      front_more f given seen g.added (stands_front before.reader.state f given seen before.reader.held.waiting false stands),
       behind_more f given seen g.added (length before.reader.held.waiting) (stands_behind before.reader.state f given seen before.reader.held.waiting on.more stands),
     )

@@ -16,3 +16,4 @@ pub mod PlainLaws
 pub mod Interim
 pub mod JoinLaws
 pub mod LagLaws
+pub mod Filling

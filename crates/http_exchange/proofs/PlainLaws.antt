@@ -1,6 +1,6 @@
 -- Requests that put no manifest stay such requests wherever redirects lead.
-use Rattle.std.proofs.Common.{◌≡◌, ◌≢◌, ℕ, zero, suc, ◌<◌, ◌≤◌, ◌⊎◌, inl, inr, Bool, true, false, cond, not, ◌&&◌, ◌||◌, ◌==◌, nat_le, nat_eq, List, [], ◌∷◌, ◌++◌, length, drop, codes, refl, arith, ap, sym, subst, ◌∙◌, Option, Some, None, Result, slice_index_or, Contains}
-use Rattle.std.specs.List.{list_all, starts_with}
+use Rattle.std.proofs.Common.{◌≡◌, ℕ, zero, suc, ◌≤◌, ◌⊎◌, inl, inr, Bool, true, false, cond, ◌&&◌, nat_le, nat_eq, List, [], ◌∷◌, ◌++◌, length, drop, codes, refl, arith, ap, sym, subst, ◌∙◌, Option, Some, None, Result, Contains}
+use Rattle.std.specs.List.{starts_with}
 use Rattle.std.proofs.lemmas.List.Elements.{Contains-append_cases}
 use Rattle.std.proofs.lemmas.Bool.{and_parts}
 use Rattle.std.proofs.lemmas.Bool.Decides.{nat_tests}
@@ -16,10 +16,10 @@ use Rattle.http_message.specs.declared.fault.ExchangeFault.{ExchangeFault}
 use Rattle.http_message.specs.Heads.{headers_of}
 use Rattle.http_message.specs.Spelling.{told_headers}
 use Rattle.http_message.specs.Sent.{is_one_line}
-use Rattle.http_message.specs.Requests.{IsClean, IsManifestPut, MaySend, text_of, counted}
+use Rattle.http_message.specs.Requests.{MaySend, text_of}
 use Rattle.http_message.specs.OneRequest.{IsOneRequest, GainsRequests}
 use Rattle.http_message.proofs.LaxHeads.{weaker, visible_line, holds_one}
-use Rattle.http_message.specs.Writes.{IsPlain, BeginsPlain}
+use Rattle.http_message.specs.Writes.{BeginsPlain}
 use Rattle.http_message.proofs.WriteLaws.{plain_requests}
 use Rattle.http_message.specs.Visible.{are_visible}
 use Rattle.http_message.specs.declared.head.Head.{Head}
@@ -28,12 +28,11 @@ use Rattle.skopeo_outside.proofs.WireLemmas.{append_none}
 use Rattle.http_exchange.specs.Reader.{Reader}
 use Rattle.http_exchange.specs.Opened.{Chained}
 use Rattle.http_exchange.specs.Sending.{host_name, sending_to, SendsFront, nothing, front, FailsSending}
-use Rattle.http_exchange.specs.Locations.{Lead, plain, tls, nowhere, target_in, port_of, plain_lead, path_lead, lead_of, lead_by, lead_in, location_in}
+use Rattle.http_exchange.specs.Locations.{plain, tls, nowhere, target_in, port_of, plain_lead, path_lead, lead_by, location_in}
 use Rattle.http_exchange.specs.Talk.{Asks}
 use Rattle.http_exchange.specs.Asked.{AtMostOne, none, one}
 use Rattle.http_exchange.specs.Chain.{Hop, Follows, Exchanges, request_at}
-use Rattle.http_exchange.specs.Calls.{Opened, OpensAnswer}
-use Rattle.http_exchange.specs.Plain.{IsMild, GainsPlain, PlainExchange, PlainOpening}
+use Rattle.http_exchange.specs.Plain.{IsMild, PlainExchange, PlainOpening}
 
 -- ---- texts of visible bytes
 
@@ -246,3 +245,12 @@ one_stopped r size stop old new m f = record { gained = f.gained; told = f.told;
 -- closing gains nothing
 pub requests_closed : (old mid new : Conversations) → new ≡ mid → GainsRequests old mid → GainsRequests old new
 requests_closed old mid new same g = subst (λ (t : Conversations). GainsRequests old t) (sym same) g
+
+-- one conversation of a request, within what it counts
+pub gained_one : (r : Request) (size : ℕ) (body : List ℕ) (c : Conversation) (old new : Conversations) → MaySend r size → length body ≤ size → Asks r body c
+    → Gains (c ∷ []) old new → GainsRequests old new
+gained_one r size body c old new m le asks g = record {
+  gained = c ∷ [];
+  told = g;
+  each = λ d among. subst (λ (x : Conversation). IsOneRequest x.sent) (only c d among) (asks_one r body size c m le asks);
+}

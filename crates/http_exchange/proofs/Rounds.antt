@@ -29,7 +29,7 @@ take_two (suc m) (x ∷ a) b =
     let e : m - length a ≡ suc m - length (x ∷ a) = omega arith in
     ap (λ (w : List ℕ). x ∷ w) (take_two m a b) ∙ ap (λ (k : ℕ). x ∷ (take m a ++ take k b)) e
 
-take_nothing : (m : ℕ) → ◌≡◌ {A = List ℕ} [] (take m [])
+pub take_nothing : (m : ℕ) → ◌≡◌ {A = List ℕ} [] (take m [])
 take_nothing zero = refl
 take_nothing (suc m) = refl
 

@@ -1,5 +1,5 @@
 -- How far what was given of a body lags behind what was received, also at a fault.
-use Rattle.std.specs.Prelude.{◌≡◌, ℕ, ◌+◌, ◌≤◌, Bool, false, List, ◌++◌, length, Err, None}
+use Rattle.std.specs.Prelude.{◌≡◌, ℕ, ◌+◌, ◌≤◌, Bool, false, List, ◌++◌, length, Result, None}
 use Rattle.skopeo_outside.specs.Wire.{Conversations}
 use Rattle.http_message.specs.declared.framing.Framing.{Framing}
 use Rattle.http_message.specs.declared.fault.ExchangeFault.{ExchangeFault}
@@ -23,9 +23,9 @@ abbrev pub WaitingLags : Type 0
 WaitingLags = (a : Opened) (f : Framing) (given seen : List ℕ) → GoesOnGiving a.reader → Streams a.reader f given seen false
     → IsBehind f given seen (length a.reader.held.waiting)
 
--- At a fault what was given is still a front of each body that the bytes can yet spell, and it lags by no more than what
--- waited, and what this call received.
-abbrev pub FaultKeeps : Type 0
-FaultKeeps = (before after : Opened) (into : List ℕ) (old new : Conversations) (fault : ExchangeFault) (f : Framing) (given seen : List ℕ)
-    → GoesOnGiving before.reader → Streams before.reader f given seen false → (g : GivesPiece old new before after into (Err fault))
+-- Whatever a call answers, also at a fault, what was given before is still a front of each body that the bytes can yet spell,
+-- and it lags by no more than what waited, and what this call received.
+abbrev pub CallKeeps : Type 0
+CallKeeps = (before after : Opened) (into : List ℕ) (old new : Conversations) (result : Result ℕ ExchangeFault) (f : Framing) (given seen : List ℕ)
+    → GoesOnGiving before.reader → Streams before.reader f given seen false → (g : GivesPiece old new before after into result)
     → IsFront f given (seen ++ g.added) × IsBehind f given (seen ++ g.added) (length before.reader.held.waiting + length g.added)

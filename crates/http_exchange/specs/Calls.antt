@@ -1,5 +1,5 @@
 -- What the public calls say.
-use Rattle.std.specs.Prelude.{◌≡◌, ◌≢◌, ◌⊎◌, ◌-◌, ◌<◌, ◌≤◌, ℕ, Bool, false, take, ◌||◌, List, [], ◌++◌, Result, Ok, Err, IfOk, Some, None, OnOk}
+use Rattle.std.specs.Prelude.{◌≡◌, ◌≢◌, ◌⊎◌, ◌-◌, ◌≤◌, ℕ, Bool, false, take, ◌||◌, List, [], ◌++◌, Result, Ok, Err, IfOk, Some}
 use Rattle.skopeo_outside.specs.declared.words.Step.{Step}
 use Rattle.skopeo_outside.specs.declared.stop.Stop.{Stop}
 use Rattle.skopeo_outside.specs.declared.stop.Stop.TheVariants.{Fault, Memory as Want}
@@ -16,8 +16,8 @@ use Rattle.http_message.specs.Faults.{shown}
 use Rattle.http_message.specs.Shown.{answer_of}
 use Rattle.http_message.specs.Spelling.{Spells}
 use Rattle.http_exchange.specs.Received.{Notes}
-use Rattle.http_exchange.specs.Reader.{Reader, Streams, Gave}
-use Rattle.http_exchange.specs.Streaming.{IsNoBody}
+use Rattle.http_exchange.specs.Reader.{Reader, Streams}
+use Rattle.http_exchange.specs.Streaming.{IsNoBody, IsPiece}
 use Rattle.http_exchange.specs.Opening.{body_framing}
 use Rattle.http_exchange.specs.Sending.{SendsFront}
 use Rattle.http_exchange.specs.Talk.{is_get, Opens}
@@ -101,7 +101,7 @@ pub record OpensAnswer (step : Step) (r : Request) (old new : Conversations) (re
 
 -- a piece was given, at the front of `into`, or the fault says why the bytes give no body
 abbrev pub PieceSo : Framing → List ℕ → List ℕ → List ℕ → Bool → Opened → Result ℕ ExchangeFault → Type 0
-PieceSo f given into seen ended a (Ok n) = Gave f given (take n into) seen ended a.reader.state a.reader.held.waiting
+PieceSo f given into seen ended a (Ok n) = IsPiece f given (take n into) seen ended
 PieceSo f given into seen ended a (Err fault) = Says a.step a.reader.held.first (λ o. IsNoBody f given o seen ended) fault
 
 -- What a call does that gives a piece. For each framing and all that was given before, of all that came behind the head.
@@ -110,12 +110,10 @@ pub record GivesPiece (old new : Conversations) (before after : Opened) (into : 
   pub ended : Bool
   pub told : GoesOn (with_received added ended) old new
   pub noted : Notes before.reader.held.first added after.reader.held.first
-  pub more : IfOk result (λ n. 0 < n → ended ≡ false)
   pub piece : (f : Framing) (given seen : List ℕ) (was : Bool) → Streams before.reader f given seen was
       → PieceSo f given into (seen ++ added) (ended || was) after result
   pub streams : (f : Framing) (given seen : List ℕ) (was : Bool) → Streams before.reader f given seen was
       → IfOk result (λ n. Streams after.reader f (given ++ take n into) (seen ++ added) (ended || was))
-  pub alive : OnOk result (after.reader.failed ≡ None)
   pub same : (after.status ≡ before.status) × (after.step ≡ before.step)
 
 -- after a fault that fault again, but for want of memory, and the wire is not asked

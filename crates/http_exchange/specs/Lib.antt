@@ -2,6 +2,7 @@ pub mod Received
 pub mod Found
 pub mod Streaming
 pub mod Reader
+pub mod Filling
 pub mod Opening
 pub mod Collected
 pub mod Sending

@@ -1,5 +1,5 @@
 -- Where the `Location` of an answer leads (RFC 9110, section 10.2.2), as far as this client goes.
-use Rattle.std.specs.Prelude.{ℕ, Bool, cond, ◌&&◌, nat_eq, List, [], ◌∷◌, drop, codes, Option, Some, None}
+use Rattle.std.specs.Prelude.{ℕ, cond, ◌&&◌, nat_eq, List, [], ◌∷◌, drop, codes, Option, Some, None}
 use Rattle.std.specs.List.{starts_with}
 use Rattle.http1.specs.Text.{eq_ignore_case}
 use Rattle.image_ref.specs.Characters.{colon, slash}

@@ -1,5 +1,5 @@
 -- What is gained by requests that put no manifest and delete nothing, wherever redirects lead.
-use Rattle.std.specs.Prelude.{◌≡◌, ◌≢◌, ◌≤◌, ℕ, List, [], length, codes, Result}
+use Rattle.std.specs.Prelude.{◌≢◌, ◌≤◌, ℕ, List, [], length, codes, Result}
 use Rattle.skopeo_outside.specs.declared.words.Step.{Step}
 use Rattle.skopeo_outside.specs.Wire.{Conversation, Conversations, Gains}
 use Rattle.http_message.specs.declared.request.Request.{Request}

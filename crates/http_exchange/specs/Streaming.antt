@@ -1,5 +1,5 @@
 -- A body that is given piece by piece, against all bytes that came behind the head, and whether their end came.
-use Rattle.std.specs.Prelude.{◌≡◌, ℕ, ◌+◌, ◌<◌, ◌≤◌, Bool, List, ◌++◌, length}
+use Rattle.std.specs.Prelude.{◌≡◌, ℕ, ◌+◌, ◌<◌, ◌≤◌, Bool, List, [], ◌++◌, length}
 use Rattle.http_message.specs.declared.framing.Framing.{Framing}
 use Rattle.http_message.specs.Outcome.{Outcome, body_too_long}
 use Rattle.http_message.specs.Spelling.{FramedBody, NoFramedBody}
@@ -21,3 +21,9 @@ pub record IsFront (f : Framing) (given seen : List ℕ) : Type 0 where
 pub record IsPassed (f : Framing) (given piece seen : List ℕ) (ended : Bool) : Type 0 where
   pub passed : (limit : ℕ) → length given ≤ limit → limit < length (given ++ piece)
       → NoFramedBody f limit (body_too_long (limit + 1)) seen ended
+
+-- A piece was given: what was given is a front of each body, and whole where the piece is empty.
+pub record IsPiece (f : Framing) (given piece seen : List ℕ) (ended : Bool) : Type 0 where
+  pub front : IsFront f (given ++ piece) seen
+  pub passed : IsPassed f given piece seen ended
+  pub whole : piece ≡ [] → IsBody f given seen ended

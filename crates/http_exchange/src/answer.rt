@@ -6,11 +6,13 @@ ghost use Rattle.http_message.specs.Requests.{MaySend};
 ghost use Rattle.http_message.specs.OneRequest.{GainsRequests};
 ghost use Rattle.http_exchange.specs.Opened.{CountsWire};
 ghost use Rattle.http_exchange.specs.Reader.{IsReady, Keeps};
+ghost use Rattle.http_exchange.specs.Filling.{IsDone, KeepsFull, BlamesWire};
 ghost use Rattle.http_exchange.specs.Calls.{Opened, OpensAnswer, GivesPiece, FaultAgain, FaultStays};
 ghost use Rattle.http_exchange.specs.Hopping.{IsShown};
 
 use crate::exchanging::MOST_REDIRECTS;
 use crate::follow::{follow, shown_fault};
+use crate::full::fill;
 use crate::stream::Body;
 use http_message::{AnswerFault, ExchangeFault, Request};
 use skopeo_outside::{Step, Wire};
@@ -53,6 +55,7 @@ impl Answer {
         ensures shown { IsShown self.old.step self.old.reader.held.first fault result }
         ensures same { (self.new.status ≡ self.old.status) × (self.new.step ≡ self.old.step) × (self.new.reader.held ≡ self.old.reader.held) }
         ensures stays { (fault : AnswerFault) × (self.new.reader.failed ≡ Some fault) × IsShown self.new.step self.new.reader.held.first fault result }
+        ensures kept { (self.new.reader.failed ≡ Some AnswerFault.Memory) ⊎ (self.new.reader.failed ≡ Some fault) }
     {
         let shown = shown_fault(alloc, self.step, self.body.inbox.first(), fault);
         match shown {
@@ -117,6 +120,33 @@ pub fn next_piece<W: Wire>(
     ensures wire { IsErrOf result ExchangeFault.Wire → Rose (W.faults wire.old) (W.faults wire.new) ⊎ (answer.old.reader.failed ≡ Some AnswerFault.Wire) }
 {
     match answer.body.read_piece(wire, into) {
+        Ok(count) => Ok(count),
+        Err(fault) => Err(answer.stop(alloc, fault)),
+    }
+}
+
+/// Fills `into` with the next bytes of the body, over as many pieces as it takes: how many they are. They are fewer than
+/// `into` has room for only where no more comes, and 0 only where the whole body was given. A fault behind some bytes is
+/// answered by the next call. Else it is as `next_piece`.
+pub fn read_full<W: Wire>(
+    alloc: Global,
+    wire: &mut W,
+    answer: &mut Answer,
+    into: &mut [u8],
+) -> Result<usize, ExchangeFault>
+    requires open { IsReady answer.old.reader (W.is_open wire.old) }
+    requires room { 0 < length into.old }
+    ensures within { IfOk result (λ n. n ≤ length into.new) }
+    ensures full { IfOk result (λ n. n < length into.new → IsDone answer.new.reader) }
+    ensures keeps { KeepsFull (length into.new) answer.old.reader answer.new.reader (W.is_open wire.new) result }
+    ensures piece { GivesPiece (W.conversations wire.old) (W.conversations wire.new) answer.old answer.new into.new result }
+    ensures again { FaultAgain (W.conversations wire.old) (W.conversations wire.new) answer.old answer.new result }
+    ensures stays { FaultStays answer.new result }
+    ensures count { W.faults wire.old ≤ W.faults wire.new }
+    ensures wire { IsErrOf result ExchangeFault.Wire → Rose (W.faults wire.old) (W.faults wire.new) ⊎ (answer.old.reader.failed ≡ Some AnswerFault.Wire) }
+    ensures blames { BlamesWire (W.faults wire.old) (W.faults wire.new) answer.old.reader answer.new.reader }
+{
+    match fill(wire, &mut answer.body, into) {
         Ok(count) => Ok(count),
         Err(fault) => Err(answer.stop(alloc, fault)),
     }

@@ -8,6 +8,7 @@ mod chunk;
 mod collect;
 mod exchanging;
 mod follow;
+mod full;
 mod head;
 mod inbox;
 mod law;
@@ -18,8 +19,8 @@ mod sending;
 mod state;
 mod stream;
 
-pub use answer::{Answer, close_answer, next_piece, open};
+pub use answer::{Answer, close_answer, next_piece, open, read_full};
 pub use exchanging::exchange;
 pub use law::{given_lags, given_pieces, plain_exchanges, sent_pieces};
 pub use location::{Lead, lead_at, location_in, port_of};
-pub use pieces::{begin, end, send_piece};
+pub use pieces::{Unsent, begin, end, send_piece};

@@ -144,6 +144,7 @@ fn take_open<W: Wire>(
     ensures open { OnOk result (IsTrue (W.is_open wire.new)) }
     ensures gives { Gives (W.conversations wire.old) (W.conversations wire.new) inbox.old inbox.new State.Open into.new result }
     ensures over { IfOk result (λ r. r.0 ≡ 0 → is_over r.1 ≡ true) }
+    ensures going { IfOk result (λ r. 0 < r.0 → is_over r.1 ≡ false) }
     ensures faults { CountsFaults (W.faults wire.old) (W.faults wire.new) result }
 {
     let count = give(wire, inbox, u64::MAX, into)?;
@@ -166,6 +167,7 @@ fn take_piece<W: Wire>(
     ensures open { OnOk result (IsTrue (W.is_open wire.new)) }
     ensures gives { Gives (W.conversations wire.old) (W.conversations wire.new) inbox.old inbox.new state into.new result }
     ensures over { IfOk result (λ r. r.0 ≡ 0 → is_over r.1 ≡ true) }
+    ensures going { IfOk result (λ r. 0 < r.0 → is_over r.1 ≡ false) }
     ensures faults { CountsFaults (W.faults wire.old) (W.faults wire.new) result }
 {
     match state {
@@ -195,6 +197,7 @@ fn give_next<W: Wire>(
     ensures open { OnOk result (IsTrue (W.is_open wire.new)) }
     ensures gives { Gives (W.conversations wire.old) (W.conversations wire.new) inbox.old inbox.new state into.new result }
     ensures over { IfOk result (λ r. r.0 ≡ 0 → is_over r.1 ≡ true) }
+    ensures going { IfOk result (λ r. 0 < r.0 → is_over r.1 ≡ false) }
     ensures faults { CountsFaults (W.faults wire.old) (W.faults wire.new) result }
 {
     let ready = settle(wire, inbox, state)?;
@@ -221,6 +224,7 @@ impl Body {
         ensures open { OnOk result (IsTrue (W.is_open wire.new)) }
         ensures piece { NextPiece (W.conversations wire.old) (W.conversations wire.new) self.old self.new into.new result }
         ensures over { IfOk result (λ n. n ≡ 0 → is_over self.new.state ≡ true) }
+        ensures going { IfOk result (λ n. 0 < n → is_over self.new.state ≡ false) }
         ensures faults { CountsFaults (W.faults wire.old) (W.faults wire.new) result }
     {
         match give_next(wire, &mut self.inbox, self.state, into) {
@@ -242,6 +246,8 @@ impl Body {
         requires alive { self.old.failed ≡ None }
         ensures keeps { Keeps self.old self.new (W.is_open wire.new) result }
         ensures piece { NextPiece (W.conversations wire.old) (W.conversations wire.new) self.old self.new into.new result }
+        ensures over { IfOk result (λ n. n ≡ 0 → is_over self.new.state ≡ true) }
+        ensures going { IfOk result (λ n. 0 < n → is_over self.new.state ≡ false) }
         ensures faults { CountsFaults (W.faults wire.old) (W.faults wire.new) result }
     {
         match self.read_on(wire, into) {
@@ -260,7 +266,7 @@ impl Body {
     }
 
     /// Gives the next piece of a body that has not failed. Behind the whole body the wire is not asked.
-    fn read_unless_over<W: Wire>(
+    pub fn read_unless_over<W: Wire>(
         &mut self,
         wire: &mut W,
         into: &mut [u8],
@@ -270,6 +276,8 @@ impl Body {
         requires alive { self.old.failed ≡ None }
         ensures keeps { Keeps self.old self.new (W.is_open wire.new) result }
         ensures piece { NextPiece (W.conversations wire.old) (W.conversations wire.new) self.old self.new into.new result }
+        ensures over { IfOk result (λ n. n ≡ 0 → is_over self.new.state ≡ true) }
+        ensures going { IfOk result (λ n. 0 < n → is_over self.new.state ≡ false) }
         ensures faults { CountsFaults (W.faults wire.old) (W.faults wire.new) result }
     {
         if is_over(self.state) {

@@ -5,18 +5,18 @@ use Rattle.std.proofs.lemmas.Bool.Decides.{nat_tests}
 use Rattle.std.proofs.lemmas.Fmt.{decimal_by_steps, decimal_is_IsNumeral, decimal_nonempty}
 use Rattle.std.proofs.lemmas.List.Folds.{list_all-append}
 use Rattle.std.specs.Fmt.{decimal}
-use Rattle.std.specs.List.{list_all, list_any, flat_map}
+use Rattle.std.specs.List.{list_all}
 use Rattle.std.specs.Char.{is_ascii_uppercase, is_ascii_digit}
 use Rattle.std.specs.Str.Parse.{digits_value}
 use Rattle.http1.specs.Text.{eq_ignore_case}
 use Rattle.http_message.specs.declared.framing.Framing.{Framing}
-use Rattle.http_message.specs.declared.framing.Framing.TheVariants.{Wrong, Sized, Chunked, ToEnd}
+use Rattle.http_message.specs.declared.framing.Framing.TheVariants.{Wrong, Sized, ToEnd}
 use Rattle.http_message.specs.declared.request.Request.{Request}
 use Rattle.http_message.specs.Framing.{is_number, framing_by, framing_of}
 use Rattle.http_message.specs.Sent.{with_head, is_one_line}
 use Rattle.http_message.specs.Visible.{are_visible}
-use Rattle.http_message.specs.OneRequest.{LaxLine, is_bare, is_bare_line, are_lax, end_line, lax_head, behind_blanks, header_of, framing_in, Covers, IsOneRequest}
-use Rattle.http_message.specs.Requests.{first_line, accept_line, type_line, size_line, lines_of, text_of, counted, manifest_types, only_asks, is_visible_type, is_shown, IsClean, MaySend, HoldsOne}
+use Rattle.http_message.specs.OneRequest.{LaxLine, is_bare, is_bare_line, are_lax, end_line, lax_head, behind_blanks, header_of, framing_in, Covers}
+use Rattle.http_message.specs.Requests.{first_line, accept_line, type_line, size_line, lines_of, counted, manifest_types, only_asks, is_visible_type, is_shown, counts_body, IsClean, MaySend, HoldsOne}
 
 -- ---- texts of which each byte is so
 
@@ -260,9 +260,26 @@ clean_of r size may = record {
 pub may_counted : (r : Request) (size : ℕ) → MaySend r size → MaySend r (counted r.length)
 may_counted r size may = subst (λ (n : ℕ). MaySend r n) (sym may.counts) may
 
-pub shown_may : (r : Request) (size : ℕ) → is_shown r ≡ true → counted r.length ≡ size → size < 2 ^ 64 → (only_asks r ≡ true → r.length ≡ None) → MaySend r size
-shown_may r size shown counts small asks =
+counts_so : (asks : Bool) (length : Option ℕ) (size : ℕ) → counts_body asks length size ≡ true → (counted length ≡ size) × (asks ≡ true → length ≡ None)
+counts_so asks None size h = (grind (arith, nat_tests), λ _. refl)
+counts_so true (Some n) size h = cc
+counts_so false (Some n) size h = (grind (arith, nat_tests), λ e. cc)
+
+so_counts : (asks : Bool) (length : Option ℕ) (size : ℕ) → counted length ≡ size → (asks ≡ true → length ≡ None) → counts_body asks length size ≡ true
+so_counts asks None size c a = grind (arith, nat_tests)
+so_counts true (Some n) size c a = let e = a refl in cc
+so_counts false (Some n) size c a = grind (arith, nat_tests)
+
+pub shown_may : (r : Request) (size : ℕ) → is_shown r ≡ true → counts_body (only_asks r) r.length size ≡ true → size < 2 ^ 64 → MaySend r size
+shown_may r size shown body small =
     let p = and_parts (list_all is_ascii_uppercase r.method) (are_visible r.host && (are_visible r.target && is_visible_type r.content_type)) shown in
     let q = and_parts (are_visible r.host) (are_visible r.target && is_visible_type r.content_type) p.1 in
     let t = and_parts (are_visible r.target) (is_visible_type r.content_type) q.1 in
-    record { method = p.0; host = q.0; target = t.0; content_type = t.1; counts = counts; small = small; asks = asks }
+    let c = counts_so (only_asks r) r.length size body in
+    record { method = p.0; host = q.0; target = t.0; content_type = t.1; counts = c.0; small = small; asks = c.1 }
+
+pub may_shown : (r : Request) (size : ℕ) → MaySend r size → is_shown r ≡ true
+may_shown r size m = and_from _ _ m.method (and_from _ _ m.host (and_from _ _ m.target m.content_type))
+
+pub may_counts : (r : Request) (size : ℕ) → MaySend r size → counts_body (only_asks r) r.length size ≡ true
+may_counts r size m = so_counts (only_asks r) r.length size m.counts m.asks

@@ -1,5 +1,5 @@
 -- The text of a request: the lines of its head in their order, an empty line, and its body (RFC 9112, sections 2.1 and 3).
-use Rattle.std.specs.Prelude.{◌≡◌, ◌≢◌, ℕ, ◌<◌, ◌≤◌, ◌^◌, ◌⊎◌, Bool, true, false, ◌&&◌, ◌||◌, List, [], ◌∷◌, ◌++◌, length, codes, Option, Some, None, MatchOption}
+use Rattle.std.specs.Prelude.{◌≡◌, ◌≢◌, ℕ, ◌<◌, ◌≤◌, ◌^◌, ◌⊎◌, Bool, true, false, not, ◌==◌, ◌&&◌, ◌||◌, List, [], ◌∷◌, ◌++◌, length, codes, Option, Some, None, MatchOption}
 use Rattle.std.specs.Fmt.{decimal}
 use Rattle.std.specs.List.{list_all}
 use Rattle.std.specs.Char.{is_ascii_uppercase}
@@ -60,6 +60,11 @@ pub record IsClean (r : Request) : Type 0 where
 -- it asks, and gives nothing: a GET or a HEAD
 abbrev pub only_asks : Request → Bool
 only_asks r = is_text (codes "GET") r.method || is_text (codes "HEAD") r.method
+
+-- a request that asks, or gives something, and tells this length counts so many bytes for its body; one that asks tells none
+abbrev pub counts_body : Bool → Option ℕ → ℕ → Bool
+counts_body asks None size = size == 0
+counts_body asks (Some n) size = not asks && n == size
 
 -- its body's type is visible bytes, where it has one
 abbrev pub is_visible_type : Option (List ℕ) → Bool

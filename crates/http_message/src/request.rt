@@ -1,11 +1,11 @@
 // The head of a request.
-ghost use Rattle.std.specs.Prelude.{◌≡◌, ◌++◌, ◌∷◌, ◌&&◌, ◌||◌, ◌≤◌, [], ℕ, Bool, true, List, Option, None, codes, nat_le, IfOk, OnOk};
+ghost use Rattle.std.specs.Prelude.{◌≡◌, ◌++◌, ◌∷◌, ◌&&◌, ◌||◌, ◌≤◌, ◌↔◌, [], ℕ, Bool, true, List, Option, None, codes, nat_le, IfOk, OnOk};
 ghost use Rattle.std.specs.List.{list_all};
 ghost use Rattle.std.specs.Char.{is_ascii_uppercase};
 ghost use Rattle.http_message.specs.Sent.{is_text};
 ghost use Rattle.http_message.specs.Visible.{are_visible};
 ghost use Rattle.http_message.specs.Written.{written};
-ghost use Rattle.http_message.specs.Requests.{first_line, accept_line, type_line, size_line, text_of, manifest_types, only_asks, is_visible_type, is_shown, counted, MaySend};
+ghost use Rattle.http_message.specs.Requests.{first_line, accept_line, type_line, size_line, text_of, manifest_types, only_asks, is_visible_type, is_shown, counted, counts_body, MaySend};
 
 use http::Method;
 use skopeo_outside::{Memory, Text};
@@ -145,8 +145,7 @@ fn only_asks(request: &Request) -> bool
 
 /// Whether a request counts so many bytes for its body. A GET and a HEAD have none.
 fn counts(request: &Request, size: u64) -> bool
-    ensures counts { result ≡ true → counted request.now.length ≡ size }
-    ensures asks { result ≡ true → only_asks request.now ≡ true → request.now.length ≡ None }
+    ensures { result ≡ counts_body (only_asks request.now) request.now.length size }
 {
     match request.length {
         Some(length) => !only_asks(request) && length == size,
@@ -165,7 +164,7 @@ fn is_shown(request: &Request) -> bool
 
 /// Whether a request may be sent with a body of so many bytes.
 pub fn may_send(request: &Request, size: u64) -> bool
-    ensures may { result ≡ true → MaySend request.now size }
+    ensures may { result ≡ true ↔ MaySend request.now size }
     ensures counted { result ≡ true → MaySend request.now (counted request.now.length) }
 {
     if is_shown(request) {

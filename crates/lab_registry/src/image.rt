@@ -37,7 +37,7 @@ fn bytes_of(alloc: Global, text: &str) -> Result<Many<u8>, Memory>
 
 /// A registry that holds the image.
 pub fn hold_image(alloc: Global) -> Result<MapPeer, Memory>
-    ensures { IfOk result (λ peer. HoldsImage peer) }
+    ensures holds { IfOk result (λ peer. HoldsImage peer) }
 {
     let mut peer = MapPeer::new(alloc, PeerFraming::Length);
     peer.put_blob(NAME, CONFIG_DIGEST, bytes_of(alloc, CONFIG)?)?;

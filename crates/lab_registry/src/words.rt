@@ -53,7 +53,7 @@ fn read_three(name: &str, port: &str, count: &str) -> Option<Task>
 /// What the words ask for, and `None` where they ask for nothing that the program knows.
 #[tactic(auto, using(crate::proofs::WordLemmas::of_three))]
 pub fn read_task(words: &[String]) -> Option<Task>
-    ensures { ReadsTask (map string_bytes words.now) result }
+    ensures exact { ReadsTask (map string_bytes words.now) result }
 {
     match words {
         [] => Some(Task::Help),

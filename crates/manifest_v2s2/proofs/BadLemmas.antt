@@ -41,7 +41,7 @@ digest-by : (s : List ℕ) (o : Option (List ℕ)) → digest_of s ≡ o → Nam
 digest-by s (Some d) e = λ q h. let d = digest_of-some s d e in h.1 (rw d.1 (IsDigestText-digest_text _ d.0))
 digest-by s None e = itself-if (List ℕ) (IsDigestText s → ⊥) (λ t. digest_of-found s t e)
 
-names-digest : (o : Option Data) → NamesFirst (digest_checked o) (BadDigest o)
+pub names-digest : (o : Option Data) → NamesFirst (digest_checked o) (BadDigest o)
 names-digest None = NamesFirst-itself (List ℕ)
 names-digest (Some null) = NamesFirst-itself (List ℕ)
 names-digest (Some (boolean b)) = NamesFirst-itself (List ℕ)
@@ -50,7 +50,7 @@ names-digest (Some (string s)) = digest-by s (digest_of s) refl
 names-digest (Some (array ds)) = NamesFirst-itself (List ℕ)
 names-digest (Some (object ms)) = NamesFirst-itself (List ℕ)
 
-names-whole : (o : Option Data) → NamesFirst (whole_of o) (BadWhole o)
+pub names-whole : (o : Option Data) → NamesFirst (whole_of o) (BadWhole o)
 names-whole None = NamesFirst-itself ℕ
 names-whole (Some null) = NamesFirst-itself ℕ
 names-whole (Some (boolean b)) = NamesFirst-itself ℕ
@@ -69,13 +69,13 @@ agreed false n W P w t f = record {
   first = λ q h. elim h [ inl in_w ↦ absurd (w q in_w) | inr itself ↦ rw itself.0 (inr (refl, tt)) ];
 }
 
-names-agreeing : (known : List Known) (x : Checked (List ℕ)) (y : Checked ℕ) (W : Path → Type 0) → NamesFirst y W → NamesFirst (agreeing known x y) (W or BadAgreement (DiffersFirst known) x y)
+pub names-agreeing : (known : List Known) (x : Checked (List ℕ)) (y : Checked ℕ) (W : Path → Type 0) → NamesFirst y W → NamesFirst (agreeing known x y) (W or BadAgreement (DiffersFirst known) x y)
 names-agreeing known (Ok d) (Ok n) W w = agreed (agrees (first_size known d) n) n W (DiffersFirst known d n) w (agrees-settles known d n) (agrees-not known d n)
 names-agreeing known (Ok d) (Err p) W w = NamesFirst-or_nothing {X = ℕ} W (Err p) w
 names-agreeing known (Err q) (Ok n) W w = NamesFirst-or_nothing W (Ok n) w
 names-agreeing known (Err q) (Err p) W w = NamesFirst-or_nothing {X = ℕ} W (Err p) w
 
-names-annotation : (k : List ℕ) (o : Option Data) → NamesFirst (annotation_of k o) (BadText o)
+pub names-annotation : (k : List ℕ) (o : Option Data) → NamesFirst (annotation_of k o) (BadText o)
 names-annotation k o = NamesFirst-map (BadText o) (λ t. record { name = k; value = t }) (text_of o) (NamesFirst-text o)
 
 in_order : IsInOrder (Name (codes "annotations")) (Name (codes "digest")) (Name (codes "mediaType")) (Name (codes "size")) (Name (codes "urls"))
@@ -130,7 +130,7 @@ pub names-absent : (o : Option Data) → NamesFirst (absent o) (BadPresent o)
 names-absent None = λ q h. h
 names-absent (Some d) = NamesFirst-itself ⊤
 
-names-media : (kind : Kind) (o : Option Data) → NamesFirst (media_checked kind o) (BadMedia kind o)
+pub names-media : (kind : Kind) (o : Option Data) → NamesFirst (media_checked kind o) (BadMedia kind o)
 names-media kind None = λ q h. h
 names-media kind (Some null) = λ q h. h
 names-media kind (Some (boolean b)) = λ q h. h

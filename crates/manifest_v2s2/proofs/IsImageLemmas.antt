@@ -49,14 +49,14 @@ version-said (Some (string s)) u h = cc h
 version-said (Some (array ds)) u h = cc h
 version-said (Some (object ms)) u h = cc h
 
-media-said : (kind : Kind) (o : Option Data) (u : ⊤) → media_checked kind o ≡ Ok u → (text : List ℕ) → o ≡ Some (string text) → text ≡ media_of kind
+pub media-said : (kind : Kind) (o : Option Data) (u : ⊤) → media_checked kind o ≡ Ok u → (text : List ℕ) → o ≡ Some (string text) → text ≡ media_of kind
 media-said kind o u h text e = tested (bytes_eq text (media_of kind)) refl (sym (ap (media_checked kind) e) ∙ h)
   where
     tested : (b : Bool) → bytes_eq text (media_of kind) ≡ b → cond {A = Checked ⊤} b (Ok tt) (Err []) ≡ Ok u → text ≡ media_of kind
     tested true t k = (bytes_eq-Decides text (media_of kind)).0 t
     tested false t k = cc k
 
-media-read : (kind : Kind) (o : Option Data) → ((text : List ℕ) → o ≡ Some (string text) → text ≡ media_of kind) → media_checked kind o ≡ Ok tt
+pub media-read : (kind : Kind) (o : Option Data) → ((text : List ℕ) → o ≡ Some (string text) → text ≡ media_of kind) → media_checked kind o ≡ Ok tt
 media-read kind None h = refl
 media-read kind (Some null) h = refl
 media-read kind (Some (boolean b)) h = refl

@@ -34,7 +34,7 @@ pub under_ok : {A : Type 0} (s : Step) (x : Checked A) (a : A) → under s x ≡
 under_ok s (Ok x) a h = h
 under_ok s (Err p) a h = cc h
 
-text_ok : (o : Option Data) (t : List ℕ) → text_of o ≡ Ok t → o ≡ Some (string t)
+pub text_ok : (o : Option Data) (t : List ℕ) → text_of o ≡ Ok t → o ≡ Some (string t)
 text_ok None t h = cc h
 text_ok (Some null) t h = cc h
 text_ok (Some (boolean b)) t h = cc h
@@ -43,7 +43,7 @@ text_ok (Some (string s)) t h = let e : s ≡ t = cc h in rw e refl
 text_ok (Some (array ds)) t h = cc h
 text_ok (Some (object ms)) t h = cc h
 
-with_first_ok : {A : Type 0} (x : Checked A) (y : Checked (List A)) (us : List A) → with_first x y ≡ Ok us → (a : A) × (rest : List A) × (x ≡ Ok a) × (y ≡ Ok rest) × (us ≡ a ∷ rest)
+pub with_first_ok : {A : Type 0} (x : Checked A) (y : Checked (List A)) (us : List A) → with_first x y ≡ Ok us → (a : A) × (rest : List A) × (x ≡ Ok a) × (y ≡ Ok rest) × (us ≡ a ∷ rest)
 with_first_ok (Ok x) (Ok y) us h = (x, y, refl, refl, sym (cc h))
 with_first_ok (Ok x) (Err q) us h = cc h
 with_first_ok (Err p) (Ok y) us h = cc h

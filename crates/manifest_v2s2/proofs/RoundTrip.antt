@@ -158,7 +158,7 @@ digest-again d h = rw (digest_of-digest_text d h) refl
 pub agrees-if : (known : List Known) (d : List ℕ) (n : ℕ) → (Differs known d n → ⊥) → agrees (first_size known d) n ≡ true
 agrees-if known d n h = true_from_ne_false (agrees (first_size known d) n) (λ e. h (differs-first known d n (agrees-not known d n e)))
 
-descriptor-again : (known : List Known) (x : Descriptor) → HasDigest x → IsWritableDescriptor x → (Differs known x.digest x.size → ⊥) → descriptor_of known (Some (descriptor_data x)) ≡ Ok x
+pub descriptor-again : (known : List Known) (x : Descriptor) → HasDigest x → IsWritableDescriptor x → (Differs known x.digest x.size → ⊥) → descriptor_of known (Some (descriptor_data x)) ≡ Ok x
 unfolding descriptor_data
 descriptor-again known x is w agree =
     let a = get-annotations x.annotations x.urls x.size x.media (digest_text x.digest) in
@@ -168,7 +168,7 @@ descriptor-again known x is w agree =
     let u = get-urls x.annotations x.urls x.size x.media (digest_text x.digest) in
     rw (a, d, m, s, u, annotations-again x.annotations w.annotations, digest-again x.digest is, size-again x.size w.size, urls-again x.urls, agrees-if known x.digest x.size agree) refl
 
-known-again : (x : Descriptor) → HasDigest x → IsWritableDescriptor x → known_of (Some (descriptor_data x)) ≡ known_as x ∷ []
+pub known-again : (x : Descriptor) → HasDigest x → IsWritableDescriptor x → known_of (Some (descriptor_data x)) ≡ known_as x ∷ []
 unfolding descriptor_data
 known-again x is w =
     let d = get-digest x.annotations x.urls x.size x.media (digest_text x.digest) in
@@ -181,7 +181,7 @@ layers-again known i (x ∷ xs) are w =
     let is = All-head HasDigest x xs are in
     rw (known-again x is w.0, descriptor-again known x is w.0 w.1.0, layers-again (known ++ known_as x ∷ []) (suc i) xs (All-tail HasDigest x xs are) w.1.1) refl
 
-none-before : (d : List ℕ) (n : ℕ) → Differs [] d n → ⊥
+pub none-before : (d : List ℕ) (n : ℕ) → Differs [] d n → ⊥
 none-before d n h = h
 
 media-again : (kind : Kind) → media_checked kind (Some (string (media_of kind))) ≡ Ok tt

@@ -33,7 +33,7 @@ pub record MembersArePlain (n : ℕ) (ms : Members) : Type 0 where
   pub whole : members_have_float ms ≡ false
   pub shallow : members_depth ms ≤ n
 
-no_plain : (n : ℕ) → MembersArePlain n no_members
+pub no_plain : (n : ℕ) → MembersArePlain n no_members
 no_plain n = record { whole = refl; shallow = omega arith }
 
 plain_member : (n : ℕ) (k : List ℕ) (d : Data) (ms : Members) → IsPlain n d → MembersArePlain n ms → MembersArePlain n (member k d ms)
@@ -56,7 +56,7 @@ rest_plain n k d ms h = record { whole = right (has_float d) (members_have_float
     right true b h = cc h
     right false b h = h
 
-plain_put : (n : ℕ) (k : List ℕ) (d : Data) (ms : Members) → IsPlain n d → MembersArePlain n ms → MembersArePlain n (put k d ms)
+pub plain_put : (n : ℕ) (k : List ℕ) (d : Data) (ms : Members) → IsPlain n d → MembersArePlain n ms → MembersArePlain n (put k d ms)
 plain_put n k d no_members h m = plain_member n k d no_members h m
 plain_put n k d (member l e ms) h m =
     let first = first_plain n l e ms m in
@@ -64,16 +64,16 @@ plain_put n k d (member l e ms) h m =
     by_ordering (MembersArePlain n) (slice_cmp nat_cmp k l) (member k d (member l e ms)) (member l d ms) (member l e (put k d ms))
     (λ _. plain_member n k d (member l e ms) h m) (λ _. plain_member n l d ms h rest) (λ _. plain_member n l e (put k d ms) first (plain_put n k d ms h rest))
 
-plain_object : (n : ℕ) (ms : Members) → MembersArePlain n ms → IsPlain (suc n) (object ms)
+pub plain_object : (n : ℕ) (ms : Members) → MembersArePlain n ms → IsPlain (suc n) (object ms)
 plain_object n ms h = record { whole = h.whole; shallow = omega (arith, h.shallow) }
 
-plain_text : (n : ℕ) (s : List ℕ) → IsPlain n (string s)
+pub plain_text : (n : ℕ) (s : List ℕ) → IsPlain n (string s)
 plain_text n s = record { whole = refl; shallow = omega arith }
 
-plain_number : (n m : ℕ) → IsPlain n (number (unsigned m))
+pub plain_number : (n m : ℕ) → IsPlain n (number (unsigned m))
 plain_number n m = record { whole = refl; shallow = omega arith }
 
-plain_items : {A : Type 0} (n : ℕ) (f : A → Data) → ((x : A) → IsPlain n (f x)) → (xs : List A) → ItemsArePlain n (items_of (map f xs))
+pub plain_items : {A : Type 0} (n : ℕ) (f : A → Data) → ((x : A) → IsPlain n (f x)) → (xs : List A) → ItemsArePlain n (items_of (map f xs))
 plain_items n f h [] = record { whole = refl; shallow = omega arith }
 plain_items n f h (x ∷ xs) =
     let one = h x in
@@ -82,7 +82,7 @@ plain_items n f h (x ∷ xs) =
       shallow = omega (arith, one.shallow, rest.shallow);
     }
 
-plain_array : (n : ℕ) (ds : Items) → ItemsArePlain n ds → IsPlain (suc n) (array ds)
+pub plain_array : (n : ℕ) (ds : Items) → ItemsArePlain n ds → IsPlain (suc n) (array ds)
 plain_array n ds h = record { whole = h.whole; shallow = omega (arith, h.shallow) }
 
 plain_pairs : (n : ℕ) (ps : List Pair) (ms : Members) → MembersArePlain n ms → MembersArePlain n (put_all ps ms)
@@ -103,7 +103,7 @@ plain_descriptor x =
     plain_object 1 _ (plain_annotations x.annotations _ (plain_urls x.urls _
     (plain_put 1 (codes "size") (number (unsigned x.size)) _ (plain_number 1 x.size) (plain_put 1 (codes "mediaType") (string x.media) _ (plain_text 1 x.media) (plain_put 1 (codes "digest") (string (digest_text x.digest)) no_members (plain_text 1 _) (no_plain 1))))))
 
-deeper : (n : ℕ) (d : Data) → IsPlain n d → IsPlain (suc n) d
+pub deeper : (n : ℕ) (d : Data) → IsPlain n d → IsPlain (suc n) d
 deeper n d h = record { whole = h.whole; shallow = omega (arith, h.shallow) }
 
 pub plain_image : (i : Image) → IsPlain 4 (image_data i)

@@ -5,6 +5,5 @@ pub mod Image
 pub mod Bad
 pub mod Calls
 pub mod Written
-pub mod Platform
 pub mod Writable
 pub mod IsImage

@@ -42,7 +42,7 @@ pub fn read_absent(alloc: Global, value: Option<&Value>) -> Result<(), Fault>
     }
 }
 
-fn read_media(alloc: Global, kind: Kind, value: Option<&Value>) -> Result<(), Fault>
+pub(crate) fn read_media(alloc: Global, kind: Kind, value: Option<&Value>) -> Result<(), Fault>
     ensures { Gives result (media_checked kind (option_map (λ v. view v.now) value.entry)) }
 {
     match value {

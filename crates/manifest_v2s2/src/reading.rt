@@ -17,7 +17,7 @@ use serde_json::Value;
 use skopeo_outside::{Many, Pair, Text};
 use std::alloc::Global;
 
-fn read_digest_member(alloc: Global, value: Option<&Value>) -> Result<Digest, Fault>
+pub(crate) fn read_digest_member(alloc: Global, value: Option<&Value>) -> Result<Digest, Fault>
     ensures { Gives result (digest_checked (option_map (λ v. view v.now) value.entry)) }
 {
     match value {
@@ -47,7 +47,7 @@ fn agrees(first: Option<u64>, size: u64) -> bool
 }
 
 /// The size, unless the first size of the digest is another one.
-fn agreeing(
+pub(crate) fn agreeing(
     alloc: Global,
     sizes: &Sizes,
     digest: &Result<Digest, Fault>,
@@ -86,7 +86,7 @@ fn made(members: Result<Members, Fault>) -> Result<Descriptor, Fault>
     })
 }
 
-fn read_annotations(alloc: Global, value: Option<&Value>) -> Result<Many<Pair>, Fault>
+pub(crate) fn read_annotations(alloc: Global, value: Option<&Value>) -> Result<Many<Pair>, Fault>
     ensures { Gives result (optional_object annotation_of (option_map (λ v. view v.now) value.entry)) }
 {
     read_optional_object(
@@ -96,7 +96,7 @@ fn read_annotations(alloc: Global, value: Option<&Value>) -> Result<Many<Pair>, 
     )
 }
 
-fn read_urls(alloc: Global, value: Option<&Value>) -> Result<Many<Text>, Fault>
+pub(crate) fn read_urls(alloc: Global, value: Option<&Value>) -> Result<Many<Text>, Fault>
     ensures { Gives result (optional_list text_of (option_map (λ v. view v.now) value.entry)) }
 {
     read_optional_list(alloc, value, |value| read_text(alloc, value))

@@ -46,8 +46,9 @@ fn put_annotations(
     put(alloc, members, "annotations", value)
 }
 
+/// The object that is written for a descriptor.
 #[tactic(auto, unfolding(crate::specs::Written::descriptor_data))]
-fn descriptor_value(alloc: Global, x: &Descriptor) -> Result<Value, Memory>
+pub fn descriptor_value(alloc: Global, x: &Descriptor) -> Result<Value, Memory>
     ensures value { IfOk result (λ v. view v ≡ descriptor_data x.now) }
     ensures digest { OnOk result (HasDigest x.now) }
 {

@@ -1,5 +1,5 @@
 // What each step makes of the answer to its request.
-ghost use Rattle.std.specs.Prelude.{◌≡◌, ◌⊎◌, ◌==◌, ◌≤◌, true, map, codes, take, min, Ok, Some, IfOk, IfErr, OnErr, option_map};
+ghost use Rattle.std.specs.Prelude.{◌≡◌, ◌⊎◌, ◌==◌, ◌≤◌, true, map, codes, take, min, Ok, Some, None, IfOk, IfErr, OnErr, option_map};
 ghost use Rattle.image_ref.specs.Calls.{Answers};
 ghost use Rattle.image_ref.specs.Domain.{is_domain};
 ghost use Rattle.http_message.specs.Shown.{pair_bytes};
@@ -121,7 +121,8 @@ pub fn manifest_row(
 
 /// What a GET of a blob answers, opened.
 pub fn blob_row(answer: Result<Answer, ExchangeFault>) -> Result<Answer, RegistryFault>
-    ensures { result ≡ blob_row answer }
+    ensures row { result ≡ blob_row answer }
+    ensures alive { IfOk answer (λ a. a.reader.failed ≡ None) → IfOk result (λ a. a.reader.failed ≡ None) }
 {
     match answer {
         Ok(answer) => {

@@ -5,12 +5,13 @@ use Rattle.std.specs.Str.{bytes_eq}
 use Rattle.std.proofs.lemmas.Bool.{cases_Bool}
 use Rattle.skopeo_words.specs.Asked.{asks, AsksFor}
 use Rattle.skopeo_words.specs.CommandOf.{IsGood, IsNamed, AreInOrder, IsCommand, CommandOf}
-use Rattle.skopeo_words.specs.CopyOf.{CopyOf}
+use Rattle.skopeo_words.specs.CopyOf.{AreGiven, CopyOf}
 use Rattle.skopeo_words.specs.Faults.{bad_part, other_option, operand_fault, missing_option}
 use Rattle.skopeo_words.specs.Fields.{HasFields, FitsPlace, Fits}
 use Rattle.skopeo_words.specs.Pairs.{pair_fault}
 use Rattle.skopeo_words.specs.FirstFault.{LacksName, IsCommandFault, HasFault, IsTableFault, FirstFaultOf}
 use Rattle.skopeo_words.specs.Found.{Placed, operands_of}
+use Rattle.skopeo_words.specs.LastOf.{last_of, text_of}
 use Rattle.skopeo_words.specs.Made.{made}
 use Rattle.skopeo_words.specs.Parts.{Part}
 use Rattle.skopeo_words.specs.Reading.{asked, unless_fault, with_name, with_operands, by_table, or_table, command_fault, command_in, command_of}
@@ -25,9 +26,12 @@ use Rattle.skopeo_words.specs.declared.command.Passing.{Passing}
 use Rattle.skopeo_words.specs.declared.fault.WordsFault.{WordsFault}
 use Rattle.skopeo_words.specs.declared.fault.WordsFault.TheVariants.{At}
 use Rattle.skopeo_words.specs.declared.fault.WordsKind.TheVariants.{MissingOperand, UnknownCommand}
+use Rattle.skopeo_words.specs.declared.table.OptionName.{OptionName}
+use Rattle.skopeo_words.specs.declared.table.OptionName.TheVariants as option
 use Rattle.skopeo_words.proofs.AskedLaw.{asked_for, for_asked, asked_not, not_asked, good_not}
 use Rattle.skopeo_words.proofs.ClassLaw.{or_none, or_some, all_good, good_all, first_bad, bad_first, all_own, own_all, first_other, other_first, count_from, count_to, count_bad, bad_count, ends_from, ends_to, ends_bad, bad_ends}
-use Rattle.skopeo_words.proofs.FieldLaw.{fields_by, fields_made, fields_count, fields_ends}
+use Rattle.skopeo_words.proofs.CopyLaw.{given_in, line_given, given_line, last_given, one_last, operands_are, texts_copy, common_values, passing_values, copy_fields}
+use Rattle.skopeo_words.proofs.FieldLaw.{on_same, flag_is, common_is, passing_is, fields_by, fields_made, fields_count, fields_ends}
 use Rattle.skopeo_words.proofs.FitLaw.{fits_by, pair_none}
 use Rattle.skopeo_words.proofs.PairLaw.{pair_row, row_pair}
 use Rattle.skopeo_words.proofs.LineLaw.{line_is, line_once}
@@ -120,7 +124,19 @@ pub copy_of : (words : List (List ℕ)) (common : Common) (passing : Passing) (q
 copy_of words common passing quiet short_names source dest h = by h.gives
   where
     by_name : (name : CommandName) (operands : List Placed) → AreInOrder h.parts name operands → HasFields name h.parts operands (command.Copy common passing quiet short_names source dest) → FitsPlace passing dest → CopyOf words common passing quiet short_names source dest
-    by_name Copy operands order fields fits = record { parts = h.parts; are_parts = h.are_parts; operands = operands; in_order = order; fields = fields; fits = fits }
+    by_name Copy operands order fields fits = record {
+      given = given_in h.parts;
+      are_given = subst (λ ts. AreGiven words ts (given_in h.parts))
+          (texts_copy h.parts order.is_named.first operands source dest order.is_named.are_operands order.is_named.named fields.texts)
+          (line_given h.parts 1 words h.are_parts order.good order.own);
+      value = λ name. text_of name h.parts;
+      last = λ name. last_given name h.parts;
+      is_common = common_is h.parts common fields.is_common ∙ common_values h.parts;
+      is_passing = passing_is h.parts passing fields.is_passing ∙ passing_values h.parts;
+      is_quiet = sym (flag_is option.Quiet h.parts quiet fields.is_quiet) ∙ on_same (last_of option.Quiet h.parts);
+      is_short = sym (flag_is option.ShortNames h.parts short_names fields.is_short) ∙ on_same (last_of option.ShortNames h.parts);
+      fits = fits;
+    }
     by_name Sync operands order fields fits = absurd fields
     by_name Inspect operands order fields fits = absurd fields
     by_name ListTags operands order fields fits = absurd fields
@@ -133,11 +149,21 @@ copy_of words common passing quiet short_names source dest h = by h.gives
     by (inr i) = by_name i.name i.operands i.in_order i.fields i.fits
 
 pub of_copy : (words : List (List ℕ)) (common : Common) (passing : Passing) (quiet short_names : Bool) (source dest : List ℕ) → CopyOf words common passing quiet short_names source dest → CommandOf words (command.Copy common passing quiet short_names source dest)
-of_copy words common passing quiet short_names source dest h = record {
-  parts = h.parts;
-  are_parts = h.are_parts;
-  gives = inr (record { name = Copy; operands = h.operands; in_order = h.in_order; fields = h.fields; fits = h.fits });
-}
+of_copy words common passing quiet short_names source dest h =
+    let r = given_line words (codes "copy" ∷ source ∷ dest ∷ []) h.given h.are_given 1 in
+    let o = operands_are (operands_of r.parts) source dest r.texts in
+    let are : (name : OptionName) → h.value name ≡ text_of name r.parts = λ name. one_last name r.parts h.given (h.value name) r.gives (h.last name) in
+    record {
+      parts = r.parts;
+      are_parts = r.line;
+      gives = inr (record {
+        name = Copy;
+        operands = o.places;
+        in_order = record { is_named = record { first = o.first; are_operands = o.joined; named = o.named }; good = r.good; own = r.own };
+        fields = copy_fields r.parts o.places h.value common passing quiet short_names source dest r.good are h.is_common h.is_passing h.is_quiet h.is_short o.texts;
+        fits = h.fits;
+      });
+    }
 
 -- ---- the first fault
 
@@ -228,3 +254,9 @@ commands words c = (read_command words c, command_read words c)
 
 pub faults : (words : List (List ℕ)) (e : WordsFault) → (command_of words ≡ Err e) ↔ FirstFaultOf words e
 faults words e = (fault_first words e, first_fault_read words e)
+
+pub copies : (words : List (List ℕ)) (common : Common) (passing : Passing) (quiet short_names : Bool) (source dest : List ℕ) → (command_of words ≡ Ok (command.Copy common passing quiet short_names source dest)) ↔ CopyOf words common passing quiet short_names source dest
+copies words common passing quiet short_names source dest = (
+  λ is. copy_of words common passing quiet short_names source dest (read_command words (command.Copy common passing quiet short_names source dest) is),
+  λ asks. command_read words (command.Copy common passing quiet short_names source dest) (of_copy words common passing quiet short_names source dest asks),
+)

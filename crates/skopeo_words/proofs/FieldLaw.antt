@@ -80,7 +80,7 @@ yes_same : (choice : Option Bool) → is_yes choice ≡ unwrap_or choice false
 yes_same None = refl
 yes_same (Some b) = refl
 
-on_same : (o : Option Placed) → is_on o ≡ unwrap_or (option_and_then truth_value (option_map (λ p. p.text) o)) false
+pub on_same : (o : Option Placed) → is_on o ≡ unwrap_or (option_and_then truth_value (option_map (λ p. p.text) o)) false
 on_same None = refl
 on_same (Some value) = yes_same (truth_value value.text)
 
@@ -113,7 +113,7 @@ end_is name parts x h = rw (is_last name parts h.value h.last, h.says) refl
 
 -- ---- the options that commands share
 
-common_by : (parts : List Part) → All IsGood parts → AreCommon parts (common_of parts)
+pub common_by : (parts : List Part) → All IsGood parts → AreCommon parts (common_of parts)
 unfolding kind_of
 common_by parts good = record {
   policy = text_by option.Policy parts;
@@ -127,7 +127,7 @@ common_by parts good = record {
       (given_by (number_upto 16) option.Lanes parts (kind_reads kind.Lanes option.Lanes parts refl good));
 }
 
-common_is : (parts : List Part) (c : Common) → AreCommon parts c → c ≡ common_of parts
+pub common_is : (parts : List Part) (c : Common) → AreCommon parts c → c ≡ common_of parts
 common_is parts c h =
     let policy = text_is option.Policy parts c.policy h.policy in
     let registries_conf = text_is option.RegistriesConf parts c.registries_conf h.registries_conf in
@@ -148,7 +148,7 @@ common_is parts c h =
       lanes = sym lanes i;
     }
 
-passing_by : (parts : List Part) → All IsGood parts → ArePassing parts (passing_of parts)
+pub passing_by : (parts : List Part) → All IsGood parts → ArePassing parts (passing_of parts)
 unfolding kind_of
 passing_by parts good = record {
   all = flag_by option.All parts refl good;
@@ -162,7 +162,7 @@ passing_by parts good = record {
   verifier = text_by option.Verifier parts;
 }
 
-passing_is : (parts : List Part) (p : Passing) → ArePassing parts p → p ≡ passing_of parts
+pub passing_is : (parts : List Part) (p : Passing) → ArePassing parts p → p ≡ passing_of parts
 passing_is parts p h =
     let all = flag_is option.All parts p.all h.all in
     let preserve = flag_is option.PreserveDigests parts p.preserve h.preserve in

@@ -51,10 +51,10 @@ at_row option.Config = refl
 at_row option.NoTags = refl
 at_row option.TlsVerify = refl
 
-same_is : (a b : OptionName) → same_option a b ≡ true → b ≡ a
+pub same_is : (a b : OptionName) → same_option a b ≡ true → b ≡ a
 same_is a b h = sym (at_row b) ∙ sym (ap named_at (eqb-true (row_of a) (row_of b) h)) ∙ at_row a
 
-same_self : (a : OptionName) → same_option a a ≡ true
+pub same_self : (a : OptionName) → same_option a a ≡ true
 same_self a = eq-eqb (row_of a) (row_of a) refl
 
 -- ---- what is found

@@ -8,6 +8,7 @@ pub mod PairLaw
 pub mod FitLaw
 pub mod AskedLaw
 pub mod ClassLaw
+pub mod CopyLaw
 pub mod CommandLaw
 pub mod HelpLaw
 pub mod SlashLemmas

@@ -1,13 +1,16 @@
 // Words, read into a command.
-ghost use Rattle.std.specs.Prelude.{◌≡◌, ◌+◌, ◌<◌, ◌^◌, ◌↔◌, length, map};
+ghost use Rattle.std.specs.Prelude.{◌≡◌, ◌+◌, ◌<◌, ◌^◌, ◌↔◌, ℕ, List, Bool, length, map};
 ghost use Rattle.std.specs.String.{string_bytes};
 ghost use Rattle.image_ref.specs.Calls.{Answers};
 ghost use Rattle.skopeo_words.specs.Scan.{seen_part};
 ghost use Rattle.skopeo_words.specs.LastOf.{seen_placed};
 ghost use Rattle.skopeo_words.specs.CommandOf.{CommandOf};
+ghost use Rattle.skopeo_words.specs.CopyOf.{CopyOf};
 ghost use Rattle.skopeo_words.specs.FirstFault.{FirstFaultOf};
 ghost use Rattle.skopeo_words.specs.Reading.{with_operands, command_in, command_of, by_table};
 ghost use Rattle.skopeo_words.specs.Faults.{bad_part};
+ghost use Rattle.skopeo_words.specs.declared.command.Common.{Common};
+ghost use Rattle.skopeo_words.specs.declared.command.Passing.{Passing};
 
 use crate::asked::asked;
 use crate::classes::{bad_part, command_fault};
@@ -70,6 +73,10 @@ pub fn read_words(alloc: Global, words: &[String]) -> Result<Command, WordsFault
     ensures exact { Answers WordsFault.Memory result (command_of (map string_bytes words.now)) }
     ensures grammar { let texts = map string_bytes words.now in
         (c : Command) → (command_of texts ≡ Ok c) ↔ CommandOf texts c }
+    ensures copies { let texts = map string_bytes words.now in
+        (common : Common) (passing : Passing) (quiet short_names : Bool) (source dest : List ℕ)
+        → (command_of texts ≡ Ok (Command.Copy common passing quiet short_names source dest))
+        ↔ CopyOf texts common passing quiet short_names source dest }
     ensures faults { let texts = map string_bytes words.now in
         (e : WordsFault) → (command_of texts ≡ Err e) ↔ FirstFaultOf texts e }
 {

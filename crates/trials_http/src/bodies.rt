@@ -6,7 +6,7 @@ use crate::exchanges::{WHOLE, request_by};
 use crate::outcomes::{fault_text, push_unless_same};
 use crate::script::wire_to;
 use crate::spelling::{shown, spelled_all};
-use http_exchange::{Answer, next_piece, open};
+use http_exchange::{Answer, next_piece, open, read_full};
 use http_message::may_send;
 use skopeo_outside::{Many, Memory, Step, Text, Wire};
 use std::alloc::Global;
@@ -111,4 +111,79 @@ pub fn calls(alloc: Global, input: &str) -> Result<Text, Memory> {
         Ok(mut answer) => four_calls(alloc, &mut wire, &mut answer),
         Err(fault) => fault_text(alloc, &fault),
     }
+}
+
+/// How many bytes each call gave, what came behind them, and all these bytes.
+fn counted(alloc: Global, counts: &Text, last: &str, bytes: &Many<u8>) -> Result<Text, Memory> {
+    let bytes = shown(bytes.as_slice());
+    Ok(Text::from_string(format!(in alloc; "{}{last} {bytes:?}", counts.as_str())?))
+}
+
+/// What calls give that fill a buffer, up to the end or a fault.
+fn fills_of<W: Wire>(
+    alloc: Global,
+    wire: &mut W,
+    answer: &mut Answer,
+    into: &mut [u8],
+) -> Result<Text, Memory>
+    requires open { IsReady answer.old.reader (W.is_open wire.old) }
+    requires room { 0 < length into.old }
+{
+    let mut counts = Text::new(alloc);
+    let mut bytes = Many::new(alloc);
+    for _ in 0..1000 {
+        match read_full(alloc, wire, answer, into) {
+            Ok(0) => return counted(alloc, &counts, "end", &bytes),
+            Ok(count) => {
+                bytes.extend(&into[..count])?;
+                counts.push_number(count)?;
+                counts.push_str(" ")?;
+            }
+            Err(fault) => {
+                let fault = fault_text(alloc, &fault)?;
+                return counted(alloc, &counts, fault.as_str(), &bytes);
+            }
+        }
+    }
+    Text::from_str(alloc, "no end")
+}
+
+/// What the answer to a GET gives to calls that fill `into`, when it comes in pieces of this size.
+fn filled_by(alloc: Global, input: &str, piece: usize, into: &mut [u8]) -> Result<Text, Memory>
+    requires room { 0 < length into.old }
+    ensures room { length into.new ≡ length into.old }
+{
+    let mut wire = wire_to(alloc, spelled_all(alloc, input)?, piece);
+    let request = request_by(alloc, "GET")?;
+    if !may_send(&request, 0) {
+        return Err(Memory);
+    }
+    match open(alloc, &mut wire, &request, Step::Blob) {
+        Ok(mut answer) => fills_of(alloc, &mut wire, &mut answer, into),
+        Err(fault) => fault_text(alloc, &fault),
+    }
+}
+
+/// Adds what calls give that fill `into`, and where it differs what they give when other pieces come.
+fn push_filled(alloc: Global, text: &mut Text, input: &str, into: &mut [u8]) -> Result<(), Memory>
+    requires room { 0 < length into.old }
+{
+    let whole = filled_by(alloc, input, WHOLE, into)?;
+    text.push_str(whole.as_str())?;
+    for piece in [1, 2, 7, 65536] {
+        let found = filled_by(alloc, input, piece, into)?;
+        push_unless_same(text, whole.as_str(), found.as_str())?;
+    }
+    Ok(())
+}
+
+/// What calls give that fill buffers of 1, 3 and 100 bytes.
+pub fn filled(alloc: Global, input: &str) -> Result<Text, Memory> {
+    let mut text = Text::new(alloc);
+    push_filled(alloc, &mut text, input, &mut [0; 1])?;
+    text.push_str(", ")?;
+    push_filled(alloc, &mut text, input, &mut [0; 3])?;
+    text.push_str(", ")?;
+    push_filled(alloc, &mut text, input, &mut [0; 100])?;
+    Ok(text)
 }

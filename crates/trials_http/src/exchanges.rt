@@ -150,13 +150,17 @@ fn sent_in_pieces<W: Wire>(alloc: Global, wire: &mut W, request: &Request) -> Re
     if !may_send(request, 6) {
         return Err(Memory);
     }
-    if let Err(fault) = begin(alloc, wire, request) {
+    let mut unsent = match begin(alloc, wire, request) {
+        Ok(unsent) => unsent,
+        Err(fault) => return fault_text(alloc, &fault),
+    };
+    if unsent.left() != 6 {
+        return Text::from_str(alloc, "another length");
+    }
+    if let Err(fault) = send_piece(wire, &mut unsent, b"abc") {
         return fault_text(alloc, &fault);
     }
-    if let Err(fault) = send_piece(wire, b"abc") {
-        return fault_text(alloc, &fault);
-    }
-    if let Err(fault) = send_piece(wire, b"def") {
+    if let Err(fault) = send_piece(wire, &mut unsent, b"def") {
         return fault_text(alloc, &fault);
     }
     let result = end(alloc, wire, Step::Piece, LIMIT);

@@ -30,6 +30,7 @@ fn answer(alloc: Global, call: &str, input: &str) -> Result<Text, Memory> {
         "upload" => exchanges::upload(alloc, input),
         "body" => bodies::body(alloc, input),
         "calls" => bodies::calls(alloc, input),
+        "filled" => bodies::filled(alloc, input),
         "registry" => registry::registry(alloc, input),
         "connection" => labs::connection(alloc, input),
         "task" => labs::task(alloc, input),

@@ -60,10 +60,11 @@ pub fn mount(alloc: Global, row: &str) -> Result<Text, Memory> {
 /// Sends `abc` to an upload. Where it then goes on, or the fault.
 fn sent(alloc: Global, wire: &mut Line, upload: Upload) -> Result<Result<Upload, String>, Memory> {
     let request = upload.request(alloc, 3)?;
-    if let Err(fault) = begin(alloc, wire, &request) {
-        return Ok(Err(exchange_text(alloc, &fault)?));
-    }
-    if let Err(fault) = send_piece(wire, b"abc") {
+    let mut unsent = match begin(alloc, wire, &request) {
+        Ok(unsent) => unsent,
+        Err(fault) => return Ok(Err(exchange_text(alloc, &fault)?)),
+    };
+    if let Err(fault) = send_piece(wire, &mut unsent, b"abc") {
         return Ok(Err(exchange_text(alloc, &fault)?));
     }
     match end(alloc, wire, Step::Piece, 0) {

@@ -1,0 +1,4 @@
+pub mod RowLemmas
+pub mod EachLemmas
+pub mod ChangeLemmas
+pub mod BackLemmas

@@ -1,0 +1,5 @@
+pub mod LoopLemmas
+pub mod ChoiceLemmas
+pub mod RelationLemmas
+pub mod BadLemmas
+pub mod WrittenLemmas
