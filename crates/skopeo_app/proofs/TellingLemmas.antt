@@ -11,7 +11,8 @@ use Rattle.skopeo_app.specs.declared.refusal.CommandRefusal.TheVariants as refus
 use Rattle.skopeo_app.specs.declared.run.Done.{Done}
 use Rattle.skopeo_app.specs.Sinks.{SinkTold, Gained}
 use Rattle.skopeo_app.specs.Runs.{Tells, Finishes}
-use Rattle.skopeo_app.specs.Lines.{image_line, refusal_line}
+use Rattle.skopeo_app.specs.Rows.{image_row, row_of}
+use Rattle.skopeo_app.specs.Lines.{printed, refusal_line}
 
 -- a write that did not fail has added its bytes
 pub gained : (r : Result (Unit {0}) Stop) (bytes : List ℕ) (before after : SinkTold)
@@ -22,7 +23,7 @@ gained (Err stop.Memory) bytes before after added cause wants = λ f. absurd (f 
 
 -- want of memory in place of a refusal
 pub memory_line : refusal_line (refusal.Image image.Memory) ≡ codes "skopeo: 4 OutOfMemory\n"
-unfolding refusal_line image_line
+unfolding refusal_line printed row_of image_row
 memory_line = refl
 
 no_more : (o : Option (List ℕ)) → o ≡ option_map (λ x. x ++ []) o
