@@ -42,7 +42,7 @@ use Rattle.transports.specs.Has.{MayTake, MayNotTake}
 use Rattle.transports.specs.StepEnds.{reading, taking, putting, FailsBy, FailsFreely}
 use Rattle.transports.specs.Fair.{Works}
 use Rattle.transports.proofs.GivenLemmas.{only_spares}
-use Rattle.transports.proofs.WorkLemmas.{works_only}
+use Rattle.transports.proofs.WorkLemmas.{works_later, works_only}
 use Rattle.transports.specs.declared.found.Found.{Found}
 use Rattle.admission.specs.declared.take.Taken.{Taken}
 use Rattle.admission.specs.Parts.{kind_in, image_in}
@@ -294,7 +294,7 @@ first_kept step x y r end = end.1
 
 starts_works : (folder target : List ℕ) (tree : Tree) (a b : LaneTold) → folder ≢ target → StartsWith folder tree a → Works (dest.Folder target) a b → StartsWith folder tree b
 unfolding Spares AreApart
-starts_works folder target tree a b apart starts works = by b.files.tree refl (subst (λ v. Told (SameIn folder) v b.files.tree) starts.told (only_spares (source.Folder folder) (dest.Folder target) a b apart (works_only (dest.Folder target) a b works)))
+starts_works folder target tree a b apart starts works = by b.files.tree refl (subst (λ v. Told (SameIn folder) v b.files.tree) starts.told (only_spares (source.Folder folder) (dest.Folder target) a b apart (works_later (dest.Folder target) a b works) (works_only (dest.Folder target) a b works)))
   where
     by : (y : Option Tree) → b.files.tree ≡ y → Told (SameIn folder) (Some starts.files) y → StartsWith folder tree b
     by None e r = absurd r

@@ -2,7 +2,7 @@
 use Rattle.std.proofs.Common.{◌≡◌, ◌∙◌, ◌⊎◌, ℕ, List, [], ◌∷◌, Bool, Option, Some, None, Result, Ok, Err, IfSome, length, inl, inr, refl, sym, subst, arith}
 use Rattle.skopeo_outside.specs.Outside.{Told}
 use Rattle.skopeo_outside.specs.LaneTold.{LaneTold}
-use Rattle.skopeo_outside.specs.LaneLaws.{later_then, each_then, lane_at}
+use Rattle.skopeo_outside.specs.LaneLaws.{each_then, lane_at}
 use Rattle.skopeo_outside.specs.Seen.{Seen, OnFirst, OnEach, OnSome}
 use Rattle.skopeo_outside.proofs.PlaceLemmas.{some_earlier}
 use Rattle.skopeo_outside.specs.declared.words.Fetched.{Fetched}
@@ -28,6 +28,7 @@ use Rattle.transports.specs.Fair.{IsFairOn}
 use Rattle.transports.specs.Writes.{Spot, AtPath, IsWrite, ShowsWrite, WritesNone, WritesNowhere}
 use Rattle.transports.specs.Named.{IsNamed, AreSigned, IsAlone, AddsOnly, IsOfJobs}
 use Rattle.transports.specs.StepEnds.{IsDone}
+use Rattle.transports.proofs.WithinLemmas.{within_earlier}
 use Rattle.transports.proofs.HasLemmas.{has_earlier, reported_earlier, untouched_then}
 use Rattle.admission.specs.Admission.{Admission}
 use Rattle.copy_engine.specs.Headline.{Answered, IsOfPlan, IsCopied, ImageHeadline}
@@ -40,9 +41,6 @@ use Rattle.skopeo_app.proofs.ReadLemmas.{quiet_later, quiet_untouched}
 told_earlier : {A : Type 0} (R : A → A → Type 0) (x y z : Option A) → y ≡ x → Told R y z → Told R x z
 told_earlier R x y z e r = subst (λ v. Told R v z) e r
 
-within_earlier : (R : LaneTold → LaneTold → Type 0) (a b c : LaneTold) → IsQuiet a b → Within R b c → Within R a c
-within_earlier R a b c q w = record { first = w.first; last = w.last; before = later_then a b w.first (quiet_later a b q) w.before; is = w.is; after = w.after }
-
 some_told : {A : Type 0} (P : A → Type 0) (x y : Option A) → y ≡ x → IfSome y P → IfSome x P
 some_told P x y e r = subst (λ v. IfSome v P) e r
 
@@ -51,7 +49,7 @@ some_told P x y e r = subst (λ v. IfSome v P) e r
 manifest_earlier : (s : Source) (part : Option (List ℕ)) (r : Result Fetched Refusal) (a b c : LaneTold) → IsQuiet a b → ManifestEnds s part b c r → ManifestEnds s part a c r
 unfolding ManifestEnds
 manifest_earlier (source.Folder path) part r a b c q h = some_told _ a.files.tree b.files.tree q.tree h
-manifest_earlier (source.Registry reference) None (Ok fetched) a b c q h = within_earlier _ a b c q h
+manifest_earlier (source.Registry reference) None (Ok fetched) a b c q h = within_earlier _ a b c (quiet_later a b q) h
 manifest_earlier (source.Registry reference) None (Err e) a b c q h = absurd h
 manifest_earlier (source.Registry reference) (Some digest) r a b c q h = absurd h
 
@@ -63,7 +61,7 @@ signatures_earlier (source.Registry reference) part r a b c q h = h
 blob_earlier : (s : Source) (job : Job) (r : Result (List ℕ) Cause) (a b c : LaneTold) → IsQuiet a b → BlobEnds s job b c r → BlobEnds s job a c r
 unfolding BlobEnds
 blob_earlier (source.Folder path) job r a b c q h = some_told _ a.files.tree b.files.tree q.tree h
-blob_earlier (source.Registry reference) job r a b c q h = within_earlier _ a b c q h
+blob_earlier (source.Registry reference) job r a b c q h = within_earlier _ a b c (quiet_later a b q) h
 
 only_earlier : (to : Dest) (a b c : LaneTold) → IsQuiet a b → OnlyAtDest to b c → OnlyAtDest to a c
 unfolding OnlyAtDest
@@ -137,7 +135,7 @@ answered_earlier tls conf (Dir path) x y z found quiet answered = answered
 answered_earlier tls conf (Docker r) x y z found quiet answered = record {
   sources = answered.sources;
   has = answered.has;
-  tried = first_earlier (Within (λ a b. AreTried tls answered.sources a b (Ok found))) (within_earlier (λ a b. AreTried tls answered.sources a b (Ok found))) x.lanes y.lanes z.lanes quiet answered.tried;
+  tried = first_earlier (Within (λ a b. AreTried tls answered.sources a b (Ok found))) (λ a b c q w. within_earlier (λ a b. AreTried tls answered.sources a b (Ok found)) a b c (quiet_later a b q) w) x.lanes y.lanes z.lanes quiet answered.tried;
 }
 answered_earlier tls conf (Oci path name) x y z found quiet answered = absurd answered
 

@@ -1,5 +1,5 @@
 -- Steps of a lane that read its files alone.
-use Rattle.std.proofs.Common.{◌≡◌, ◌∙◌, Bool, true, false, List, [], ◌∷◌, ℕ, length, Option, Some, None, Result, Ok, Err, IfSome, IfErr, refl, sym, ap, subst, arith}
+use Rattle.std.proofs.Common.{◌≡◌, ◌∙◌, Bool, true, false, List, [], ◌∷◌, ℕ, length, Option, Some, None, Result, Ok, Err, IfSome, IfOk, IfErr, refl, sym, ap, subst, arith}
 use Rattle.std.specs.Option.{option_map}
 use Rattle.skopeo_outside.specs.Tree.{Tree, file_at}
 use Rattle.skopeo_outside.specs.Outside.{Told, HasCause}
@@ -153,9 +153,16 @@ system_is home cwd name None none = tt
 system_is [] cwd name (Some t) none = refl
 system_is (c ∷ home) cwd name (Some t) none = let x : length (c ∷ home) ≡ 0 = none in cc
 
+-- an answer that is a path, or want of memory
+from_path : (path : Tree → List ℕ) (a b : LaneTold) (p : List ℕ) (r : Result (List ℕ) CommandRefusal) → IsQuiet a b → IfSome a.files.tree (λ t. p ≡ path t) → IfOk r (λ v. v ≡ p) → IfErr r (λ e. e ≡ Image image.Memory)
+    → ReadsAs (by_files (λ t. Ok (path t))) a b r
+from_path path a b p (Ok v) q is same memory = path_reads path v a b q (subst (λ u. IfSome a.files.tree (λ t. u ≡ path t)) (sym same) is)
+from_path path a b p (Err e) q is same memory = subst (λ v. ReadsAs (by_files (λ t. Ok (path t))) a b (Err v)) (sym memory) (memory_reads (by_files (λ t. Ok (path t))) a b q)
+
 -- no user is at home at the empty path
-pub homeless_path : (home cwd name p : List ℕ) (a : LaneTold) → length home ≡ 0 → p ≡ system_path name → ReadsAs (by_files (λ t. Ok (usual_path t home cwd name))) a a (Ok p)
-homeless_path home cwd name p a none is = path_reads (λ t. usual_path t home cwd name) p a a (quiet_same a) (subst (λ v. IfSome a.files.tree (λ t. v ≡ usual_path t home cwd name)) (sym is) (system_is home cwd name a.files.tree none))
+pub homeless_path : (home cwd name : List ℕ) (a : LaneTold) (r : Result (List ℕ) CommandRefusal) → length home ≡ 0 → IfOk r (λ p. p ≡ system_path name) → IfErr r (λ e. e ≡ Image image.Memory)
+    → ReadsAs (by_files (λ t. Ok (usual_path t home cwd name))) a a r
+homeless_path home cwd name a r none same memory = from_path (λ t. usual_path t home cwd name) a a (system_path name) r (quiet_same a) (system_is home cwd name a.files.tree none) same memory
 
 user_is : (home cwd name : List ℕ) (size : ℕ) (x : Option Tree) → (length home ≡ 0 → ⊥) → IfSome x (λ t. Some size ≡ option_map length (file_at t (user_path home cwd name))) → IfSome x (λ t. user_path home cwd name ≡ usual_path t home cwd name)
 user_is home cwd name size None some there = tt
@@ -183,11 +190,10 @@ user_reads home cwd name p size a b some is q there =
     (subst (λ v. IfSome a.files.tree (λ t. v ≡ usual_path t home cwd name)) (sym is) (user_is home cwd name size a.files.tree some (subst (λ v. IfSome a.files.tree (λ t. Some size ≡ option_map length (file_at t v))) is there)))
 
 -- it is not
-pub system_reads : (home cwd name asked p : List ℕ) (a b : LaneTold) → asked ≡ user_path home cwd name → p ≡ system_path name → IsQuiet a b → IfSome a.files.tree (λ t. None ≡ option_map length (file_at t asked))
-    → ReadsAs (by_files (λ t. Ok (usual_path t home cwd name))) a b (Ok p)
-system_reads home cwd name asked p a b ask is q none =
-    path_reads (λ t. usual_path t home cwd name) p a b q
-    (subst (λ v. IfSome a.files.tree (λ t. v ≡ usual_path t home cwd name)) (sym is) (absent_is home cwd name a.files.tree (subst (λ v. IfSome a.files.tree (λ t. None ≡ option_map length (file_at t v))) ask none)))
+pub system_reads : (home cwd name asked : List ℕ) (a b : LaneTold) (r : Result (List ℕ) CommandRefusal) → asked ≡ user_path home cwd name → IfOk r (λ p. p ≡ system_path name) → IfErr r (λ e. e ≡ Image image.Memory) → IsQuiet a b
+    → IfSome a.files.tree (λ t. None ≡ option_map length (file_at t asked)) → ReadsAs (by_files (λ t. Ok (usual_path t home cwd name))) a b r
+system_reads home cwd name asked a b r ask same memory q none =
+    from_path (λ t. usual_path t home cwd name) a b (system_path name) r q (absent_is home cwd name a.files.tree (subst (λ v. IfSome a.files.tree (λ t. None ≡ option_map length (file_at t v))) ask none)) same memory
 
 -- ---- the file at the path that counts
 

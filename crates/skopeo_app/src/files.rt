@@ -1,5 +1,7 @@
 // The files of a user and of the system.
-ghost use Rattle.std.specs.Prelude.{◌≡◌, IfOk, Ok, length};
+ghost use Rattle.std.specs.Prelude.{◌≡◌, IfOk, IfErr, Ok, length};
+ghost use Rattle.transports.specs.declared.refusal.Refusal.TheVariants as image;
+ghost use Rattle.skopeo_app.specs.declared.refusal.CommandRefusal.TheVariants as refusal;
 ghost use Rattle.skopeo_app.specs.Usual.{user_path, system_path, usual_path};
 ghost use Rattle.skopeo_app.specs.Reads.{ReadsAs, by_files, stopped};
 
@@ -38,6 +40,17 @@ fn system_path(alloc: Global, name: &str) -> Result<Text, Memory>
     Ok(path)
 }
 
+/// The same as an answer of the command.
+fn system_file(alloc: Global, name: &str) -> Result<Text, CommandRefusal>
+    ensures path { IfOk result (λ path. path ≡ system_path name.now) }
+    ensures memory { IfErr result (λ e. e ≡ refusal.Image image.Memory) }
+{
+    match system_path(alloc, name) {
+        Ok(path) => Ok(path),
+        Err(_) => Err(CommandRefusal::Image(Refusal::Memory)),
+    }
+}
+
 /// The user's at home where it is there, else the system's.
 fn path_at_home<W: Wire, F: Files>(
     alloc: Global,
@@ -53,7 +66,7 @@ fn path_at_home<W: Wire, F: Files>(
     match lane.files.size(path.as_str()) {
         Err(stop) => return Err(stopped(stop, lane.files.faults())),
         Ok(Some(_)) => return Ok(path),
-        Ok(None) => Ok(system_path(alloc, name)?),
+        Ok(None) => system_file(alloc, name),
     }
 }
 
@@ -68,7 +81,7 @@ pub fn usual_path<W: Wire, F: Files>(
     ensures reads { ReadsAs (by_files (λ t. Ok (usual_path t home.now cwd.now name.now))) lane.old lane.new result }
 {
     if home.is_empty() {
-        return Ok(system_path(alloc, name)?);
+        return system_file(alloc, name);
     }
     path_at_home(alloc, lane, home, cwd, name)
 }

@@ -1,5 +1,6 @@
 // What a command left.
-use skopeo_outside::{Entry, Lane, Many, MemFiles, MemSink, Memory, Shelf, Text, Wire};
+use crate::network::Network;
+use skopeo_outside::{Entry, Lane, Many, MemFiles, MemSink, MemWire, Memory, Shelf, Text};
 use std::alloc::Global;
 use std::str::from_utf8;
 
@@ -19,7 +20,7 @@ fn add_new(alloc: Global, all: &mut Shelf, shelf: &Shelf) -> Result<(), Memory> 
     Ok(())
 }
 
-fn shelf_of<W: Wire + Drop>(lane: Lane<W, MemFiles>) -> Shelf {
+fn shelf_of(lane: Lane<MemWire<Network>, MemFiles>) -> Shelf {
     let Lane {
         from: _,
         to: _,
@@ -31,9 +32,9 @@ fn shelf_of<W: Wire + Drop>(lane: Lane<W, MemFiles>) -> Shelf {
 }
 
 /// The first lane's files, and what else stands in `/w/dst` on another; of a path that several have, the first one's.
-pub fn gather<W: Wire + Drop>(
+pub fn gather(
     alloc: Global,
-    mut lanes: Vec<Lane<W, MemFiles>>,
+    mut lanes: Vec<Lane<MemWire<Network>, MemFiles>>,
 ) -> Result<Shelf, Memory> {
     let mut all = Shelf::new(alloc);
     while let Some(lane) = lanes.pop() {
