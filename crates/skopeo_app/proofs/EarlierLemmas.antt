@@ -2,7 +2,7 @@
 use Rattle.std.proofs.Common.{◌≡◌, ◌∙◌, ◌⊎◌, ℕ, List, [], ◌∷◌, Bool, Option, Some, None, Result, Ok, Err, IfSome, length, inl, inr, refl, sym, subst, arith}
 use Rattle.skopeo_outside.specs.Outside.{Told}
 use Rattle.skopeo_outside.specs.LaneTold.{LaneTold}
-use Rattle.skopeo_outside.specs.LaneLaws.{each_then, lane_at}
+use Rattle.skopeo_outside.specs.LaneLaws.{later_then, each_then, lane_at}
 use Rattle.skopeo_outside.specs.Seen.{Seen, OnFirst, OnEach, OnSome}
 use Rattle.skopeo_outside.proofs.PlaceLemmas.{some_earlier}
 use Rattle.skopeo_outside.specs.declared.words.Fetched.{Fetched}
@@ -56,7 +56,7 @@ manifest_earlier (source.Registry reference) (Some digest) r a b c q h = absurd 
 signatures_earlier : (s : Source) (part : Option (List ℕ)) (r : Result (List (List ℕ)) Refusal) (a b c : LaneTold) → IsQuiet a b → SignaturesEnd s part b c r → SignaturesEnd s part a c r
 unfolding SignaturesEnd
 signatures_earlier (source.Folder path) part r a b c q h = some_told _ a.files.tree b.files.tree q.tree h
-signatures_earlier (source.Registry reference) part r a b c q h = h
+signatures_earlier (source.Registry reference) part r a b c q h = (h.0, later_then a b c (quiet_later a b q) h.1)
 
 blob_earlier : (s : Source) (job : Job) (r : Result (List ℕ) Cause) (a b c : LaneTold) → IsQuiet a b → BlobEnds s job b c r → BlobEnds s job a c r
 unfolding BlobEnds
