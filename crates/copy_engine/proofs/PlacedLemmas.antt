@@ -182,7 +182,7 @@ unfolding AllWork
 placed from dest image x y z works done filled wrote stands rest =
     let later : OnFirst IsLater x y = first_of (λ place a b. IsLater a b) x y (all_later dest x y works) in
     record {
-      done = λ k job lt at. some_then (λ place a b. IsDone from dest job a b) (λ place b c. Wrote dest image b c) (λ place a c. IsDone from dest job a c) (λ place a b c d w. done_kept from dest job a b c d (w.blobs job a d.has)) x y z (done k job lt at) wrote;
+      done = λ k job lt at. some_then (λ place a b. IsDone from dest job a b) (λ place b c. Wrote dest image b c) (λ place a c. IsDone from dest job a c) (λ place a b c d w. done_kept from dest job a b c d w.leaves.later (w.blobs job a d.has)) x y z (done k job lt at) wrote;
       named = first_then IsLater (Stands dest image) (IsNamed dest None image.manifest) (λ a b c l s. named_earlier dest None image.manifest a b c l s.named) x y z later stands;
       signed = first_then IsLater (Stands dest image) (AreSigned dest None image.signatures) (λ a b c l s. signed_earlier dest None image.signatures a b c l s.signed) x y z later stands;
       alone = first_then (IsAlone dest image.jobs []) (Stands dest image) (IsAlone dest image.jobs image.signatures) (λ a b c i s. s.alone a i) x y z filled.first stands;

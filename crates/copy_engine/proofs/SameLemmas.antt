@@ -6,6 +6,7 @@ use Rattle.skopeo_outside.specs.Seen.{Seen, OnFirst, OnEach}
 use Rattle.skopeo_outside.specs.Steps.{Step, Ends}
 use Rattle.skopeo_outside.proofs.PlaceLemmas.{each_self}
 use Rattle.policy_file.specs.PolicyLists.{PolicyLists}
+use Rattle.registries_conf.specs.Settings.{Settings}
 use Rattle.transports.specs.declared.dest.Dest.{Dest}
 use Rattle.transports.specs.declared.plan.CopyPlan.{CopyPlan}
 use Rattle.transports.specs.declared.refusal.Refusal.{Refusal}
@@ -38,14 +39,14 @@ late_same dest lanes = inl (untouched_each lanes)
 pub ready_secured : (r : ReadyImage) (lanes : List LaneTold) → IsReady r → r.made ≡ lanes → AreSecured r.dest r.image.jobs r.entry lanes
 ready_secured r lanes ready made = subst (AreSecured r.dest r.image.jobs r.entry) made ready.secured
 
-pub headline_same : (policy : PolicyLists) (plan : CopyPlan) (a : Seen) → ImageHeadline policy plan a a
-headline_same policy plan a lane x y at bytes ex ey write = absurd (none_written x x at bytes (none_same x) (subst (λ v. IsWrite x v at bytes) (same y x (sym ey ∙ ex)) write))
+pub headline_same : (policy : PolicyLists) (conf : Settings) (plan : CopyPlan) (a : Seen) → ImageHeadline policy conf plan a a
+headline_same policy conf plan a lane x y at bytes ex ey write = absurd (none_written x x at bytes (none_same x) (subst (λ v. IsWrite x v at bytes) (same y x (sym ey ∙ ex)) write))
   where
     same : (t u : LaneTold) → Some t ≡ Some u → t ≡ u
     same t u e = cc
 
-pub leaves_same : (policy : PolicyLists) (plan : CopyPlan) (a : Seen) → Leaves policy plan a a
-leaves_same policy plan a = inl (untouched_each a.lanes)
+pub leaves_same : (policy : PolicyLists) (conf : Settings) (plan : CopyPlan) (a : Seen) → Leaves policy conf plan a a
+leaves_same policy conf plan a = inl (untouched_each a.lanes)
 
 pub gives_up_same : (plan : CopyPlan) (a : Seen) → IsGivenUp plan a a
 unfolding IsGivenUp

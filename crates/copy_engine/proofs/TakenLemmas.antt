@@ -1,12 +1,14 @@
 -- What a source gave that was admitted, step by step.
-use Rattle.std.proofs.Common.{◌≡◌, ◌≢◌, ◌∙◌, ◌<◌, ℕ, List, [], ◌∷◌, length, Option, None, Result, Ok, Err, IfSome, refl, sym, ap, subst, arith}
+use Rattle.std.proofs.Common.{◌≡◌, ◌≢◌, ◌∙◌, ◌<◌, ℕ, Bool, List, [], ◌∷◌, length, Option, None, Result, Ok, Err, IfSome, refl, sym, ap, subst, arith}
 use Rattle.std.specs.Prelude.{⊤}
 use Rattle.skopeo_outside.specs.Tree.{Tree}
 use Rattle.skopeo_outside.specs.LaneTold.{LaneTold, IsLater}
+use Rattle.skopeo_outside.specs.LaneLaws.{later_then}
 use Rattle.skopeo_outside.specs.Seen.{OnFirst, OnEach, seen}
 use Rattle.skopeo_outside.specs.Steps.{given, Ends}
 use Rattle.skopeo_outside.specs.OnLanes.{on_first}
 use Rattle.skopeo_outside.specs.declared.words.Fetched.{Fetched}
+use Rattle.image_ref.specs.Reference.{Reference}
 use Rattle.image_ref.specs.declared.place.Place.{Place}
 use Rattle.image_ref.specs.declared.place.Place.TheVariants.{Docker, Dir, Oci}
 use Rattle.layouts.specs.Names.{prefix_of}
@@ -15,6 +17,13 @@ use Rattle.manifest_v2s2.specs.declared.image.Image.{Image}
 use Rattle.manifest_v2s2.specs.declared.kind.Kind.{Kind}
 use Rattle.manifest_convert.specs.Blobs.{blobs}
 use Rattle.policy_file.specs.PolicyLists.{PolicyLists}
+use Rattle.registries_conf.specs.Settings.{Settings}
+use Rattle.registries_conf.specs.IsSources.{HasSources}
+use Rattle.registries_conf.specs.SourcesOf.{sources_of}
+use Rattle.registries_conf.specs.declared.sources.Source.{Source as Location}
+use Rattle.registries_conf.specs.declared.fault.SourcesFault.{SourcesFault}
+use Rattle.registries_conf.specs.declared.fault.SourcesFault.TheVariants as blocked
+use Rattle.registries_conf.proofs.SourcesLaw.{says_sources}
 use Rattle.policy_scope.specs.Chosen.{chosen}
 use Rattle.transports.specs.declared.source.Source.{Source}
 use Rattle.transports.specs.declared.source.Source.TheVariants as source
@@ -22,16 +31,24 @@ use Rattle.transports.specs.declared.dest.Dest.{Dest}
 use Rattle.transports.specs.declared.dest.Dest.TheVariants as dest
 use Rattle.transports.specs.declared.plan.CopyPlan.{CopyPlan}
 use Rattle.transports.specs.declared.refusal.Refusal.{Refusal}
-use Rattle.transports.specs.Places.{AreApart, IsBetweenPlaces, GoesTo, source_at, dest_at}
+use Rattle.transports.specs.declared.refusal.Refusal.TheVariants as refusal
+use Rattle.transports.specs.declared.refusal.Part.TheVariants as part
+use Rattle.transports.specs.declared.found.Found.{Found}
+use Rattle.transports.specs.declared.attempt.Attempt.{Attempt}
+use Rattle.transports.specs.Places.{AreApart, IsBetweenPlaces, GoesTo, dest_at}
+use Rattle.transports.specs.Found.{by_sources, by_attempts, trying, in_folder, at_registries, found_for, found}
+use Rattle.transports.specs.Tried.{AreTried}
+use Rattle.transports.specs.Within.{Within}
+use Rattle.transports.proofs.WithinLemmas.{within_later, within_now}
+use Rattle.transports.proofs.TriedLemmas.{tried_gave, given_manifest}
 use Rattle.transports.specs.Courses.{lane_course, call_course}
 use Rattle.transports.specs.Given.{ManifestEnds, SignaturesEnd, by_folder}
 use Rattle.transports.specs.Has.{IsUntouched}
 use Rattle.transports.proofs.GivenLemmas.{manifest_later, signatures_later}
-use Rattle.admission.specs.declared.found.Found.{Found}
 use Rattle.admission.specs.declared.take.Taken.{Taken}
 use Rattle.admission.specs.Admission.{Admission, IsAdmitted, judged_by, where_judged, admitted_of}
-use Rattle.admission.specs.Walk.{found, admission}
-use Rattle.copy_engine.specs.Headline.{IsOfPlan}
+use Rattle.admission.specs.Walk.{admission}
+use Rattle.copy_engine.specs.Headline.{Answered, IsOfPlan}
 use Rattle.copy_engine.proofs.LiftLemmas.{first_then, first_of}
 use Rattle.copy_engine.proofs.PlacedLemmas.{then_ok}
 
@@ -40,24 +57,84 @@ ok_same x y e = cc
 
 -- ---- the source that answered, and its manifest
 
-record IsFound (place : Place) (it : Found) (a b : LaneTold) : Type 0 where
-  source : source_at place ≡ Ok it.from
+-- the source that answered for a place, on one lane
+abbrev pub AnswersFor : Option Bool → Settings → Place → Found → LaneTold → LaneTold → Type 0
+AnswersFor tls conf (Dir path) it a b = it.from ≡ source.Folder path
+AnswersFor tls conf (Docker r) it a b = (sources : List Location) × HasSources conf r (Ok sources) × Within (λ x y. AreTried tls sources x y (Ok it)) a b
+AnswersFor tls conf (Oci path name) it a b = ⊥
+
+-- what is known of how a lane went on where a source was read
+abbrev GoesOnAt : Source → LaneTold → LaneTold → Type 0
+GoesOnAt (source.Folder path) a b = Unit {0}
+GoesOnAt (source.Registry r) a b = IsLater a b
+
+record IsFound (tls : Option Bool) (conf : Settings) (place : Place) (it : Found) (a b : LaneTold) : Type 0 where
+  answered : AnswersFor tls conf place it a b
   gave : ManifestEnds it.from None a b (Ok it.fetched)
   untouched : IsUntouched a b
+  on : GoesOnAt it.from a b
 
-found_is : (place : Place) (a b : LaneTold) (it : Found) → found place a b (Ok it) → IsFound place it a b
-unfolding found given
-found_is place a b it walk =
+by_ok : (x : Result Found (List Attempt)) (it : Found) → Ok it ≡ by_attempts x → x ≡ Ok it
+by_ok (Ok found) it is = ap Ok (sym (ok_same {E = Refusal} it found is))
+by_ok (Err attempts) it is = let no : ◌≡◌ {A = Result Found Refusal} (Ok it) (Err (refusal.NoSource attempts)) = is in cc
+
+sources_ok : (x : Result (List Location) SourcesFault) (ss : List Location) → Ok ss ≡ by_sources x → x ≡ Ok ss
+sources_ok (Ok sources) ss is = ap Ok (sym (ok_same {E = Refusal} ss sources is))
+sources_ok (Err (blocked.Blocked n)) ss is = let no : ◌≡◌ {A = Result (List Location) Refusal} (Ok ss) (Err (refusal.Blocked n)) = is in cc
+sources_ok (Err blocked.Memory) ss is = let no : ◌≡◌ {A = Result (List Location) Refusal} (Ok ss) (Err refusal.Memory) = is in cc
+
+-- a folder
+folder_is : (path : List ℕ) (a b : LaneTold) (it : Found) → in_folder path a b (Ok it) → (it.from ≡ source.Folder path) × ManifestEnds it.from None a b (Ok it.fetched) × IsUntouched a b
+unfolding in_folder given
+folder_is path a b it walk =
+    let two = then_ok walk in
+    let is : it ≡ record { from = source.Folder path; fetched = two.1 } = ok_same {E = Refusal} _ _ two.3.1 in
+    let here : ManifestEnds (source.Folder path) None a b (Ok two.1) = subst (λ y. ManifestEnds (source.Folder path) None a y (Ok two.1)) (sym two.3.0) two.2.0 in
+    let same : IsUntouched a b = subst (λ y. IsUntouched a y) (sym two.3.0) two.2.1 in
+    (ap (λ (v : Found). v.from) is, subst (λ (v : Found). ManifestEnds v.from None a b (Ok v.fetched)) (sym is) here, same)
+
+-- the sources of a reference
+tried_is : (tls : Option Bool) (conf : Settings) (r : Reference) (a b : LaneTold) (it : Found) → at_registries tls conf r a b (Ok it) → (sources : List Location) × (sources_of conf r ≡ Ok sources) × AreTried tls sources a b (Ok it) × IsUntouched a b
+unfolding at_registries given trying
+tried_is tls conf r a b it walk =
     let one = then_ok walk in
-    let two = then_ok one.3 in
-    let is : it ≡ record { from = one.1; fetched = two.1 } = ok_same {E = Refusal} _ _ two.3.1 in
-    let here : ManifestEnds one.1 None a b (Ok two.1) = subst (λ x. ManifestEnds one.1 None x b (Ok two.1)) one.2.0 (subst (λ y. ManifestEnds one.1 None one.0 y (Ok two.1)) (sym two.3.0) two.2.0) in
-    let same : IsUntouched a b = subst (λ x. IsUntouched x b) one.2.0 (subst (λ y. IsUntouched one.0 y) (sym two.3.0) two.2.1) in
-    record {
-      source = sym one.2.1 ∙ ap (λ (v : Found). Ok v.from) (sym is);
-      gave = subst (λ (v : Found). ManifestEnds v.from None a b (Ok v.fetched)) (sym is) here;
-      untouched = same;
-    }
+    let here = one.3.0 in
+    let tried : AreTried tls one.1 one.0 b (Ok it) = subst (AreTried tls one.1 one.0 b) (by_ok here.0 it here.2) here.1 in
+    (one.1, sources_ok (sources_of conf r) one.1 one.2.1, subst (λ x. AreTried tls one.1 x b (Ok it)) one.2.0 tried, subst (λ x. IsUntouched x b) one.2.0 one.3.1)
+
+found_is : (tls : Option Bool) (conf : Settings) (place : Place) (a b : LaneTold) (it : Found) → found_for tls conf place a b (Ok it) → IsFound tls conf place it a b
+unfolding given
+found_is tls conf (Dir path) a b it walk = let f = folder_is path a b it walk in record { answered = f.0; gave = f.1; untouched = f.2; on = subst (λ s. GoesOnAt s a b) (sym f.0) tt }
+found_is tls conf (Docker r) a b it walk =
+    let t = tried_is tls conf r a b it walk in
+    let g = tried_gave tls t.0 it a b t.2 in
+    record { answered = (t.0, says_sources conf r (Ok t.0) t.1, within_now (λ x y. AreTried tls t.0 x y (Ok it)) a b t.2); gave = given_manifest it a b g; untouched = t.3; on = subst (λ s. GoesOnAt s a b) (sym g.from) g.later }
+found_is tls conf (Oci path name) a b it walk = let no : ◌≡◌ {A = Result Found Refusal} (Ok it) (Err (refusal.NotBuilt part.Place)) = walk.1 in cc
+
+-- the source that answered for a reference is a registry
+from_registry : (tls : Option Bool) (sources : List Location) (it : Found) (a b x y : LaneTold) → AreTried tls sources a b (Ok it) → GoesOnAt it.from x y → IsLater x y
+from_registry tls sources it a b x y tried on = let g = tried_gave tls sources it a b tried in subst (λ s. GoesOnAt s x y) g.from on
+
+-- it answered for its place however the lane went on
+answers_on : (tls : Option Bool) (conf : Settings) (place : Place) (it : Found) (a b c : LaneTold) → AnswersFor tls conf place it a b → GoesOnAt it.from b c → AnswersFor tls conf place it a c
+answers_on tls conf (Dir path) it a b c is on = is
+answers_on tls conf (Docker r) it a b c is on = (is.0, is.1, within_later (λ x y. AreTried tls is.0 x y (Ok it)) a b c is.2 (from_registry tls is.0 it is.2.first is.2.last b c is.2.is on))
+answers_on tls conf (Oci path name) it a b c is on = is
+
+pub answers_later : (tls : Option Bool) (conf : Settings) (place : Place) (it : Found) (a b c : LaneTold) → AnswersFor tls conf place it a b → IsLater b c → AnswersFor tls conf place it a c
+answers_later tls conf (Dir path) it a b c is later = is
+answers_later tls conf (Docker r) it a b c is later = (is.0, is.1, within_later (λ x y. AreTried tls is.0 x y (Ok it)) a b c is.2 later)
+answers_later tls conf (Oci path name) it a b c is later = is
+
+manifest_on : (s : Source) (a b c : LaneTold) (r : Result Fetched Refusal) → ManifestEnds s None a b r → GoesOnAt s b c → ManifestEnds s None a c r
+unfolding ManifestEnds
+manifest_on (source.Folder path) a b c r ends on = ends
+manifest_on (source.Registry reference) a b c r ends on = manifest_later (source.Registry reference) None a b c r ends on
+
+signatures_on : (s : Source) (a b : LaneTold) (r : Result (List (List ℕ)) Refusal) → SignaturesEnd s None a b r → GoesOnAt s a b
+unfolding SignaturesEnd
+signatures_on (source.Folder path) a b r ends = tt
+signatures_on (source.Registry reference) a b r ends = ends.1
 
 -- ---- what was admitted of it
 
@@ -79,89 +156,123 @@ admitted_is policy place fetched kind image signatures it e =
 
 -- ---- the whole walk on one lane
 
-signatures_earlier : (from : Source) (part : Option (List ℕ)) (a b c : LaneTold) (r : Result (List (List ℕ)) Refusal) → IsUntouched a b → SignaturesEnd from part b c r → SignaturesEnd from part a c r
+signatures_earlier : (from : Source) (part : Option (List ℕ)) (a b c : LaneTold) (r : Result (List (List ℕ)) Refusal) → IsUntouched a b → GoesOnAt from a b → SignaturesEnd from part b c r → SignaturesEnd from part a c r
 unfolding SignaturesEnd
-signatures_earlier (source.Folder path) part a b c r same ends = subst (λ (x : Option Tree). IfSome x (λ t. r ≡ by_folder path (signatures_in (numbered t path (prefix_of part))))) same.files ends
+signatures_earlier (source.Folder path) part a b c r same on ends = subst (λ (x : Option Tree). IfSome x (λ t. r ≡ by_folder path (signatures_in (numbered t path (prefix_of part))))) same.files ends
+signatures_earlier (source.Registry reference) part a b c r same on ends = (ends.0, later_then a b c on ends.1)
 
--- the source is that of the plan's place, it gave this manifest and these signatures, and they are the image's
-pub record IsTaken (policy : PolicyLists) (plan : CopyPlan) (from : Source) (image : Admission) (fetched : Fetched) (a b : LaneTold) : Type 0 where
-  pub source : source_at plan.source ≡ Ok from
+-- the source answered for the plan's place, it gave this manifest and these signatures, and they are the image's
+pub record IsTaken (policy : PolicyLists) (conf : Settings) (plan : CopyPlan) (from : Source) (image : Admission) (fetched : Fetched) (a b : LaneTold) : Type 0 where
+  pub answered : AnswersFor plan.src_tls conf plan.source (record { from = from; fetched = fetched }) a b
   pub under : image.policy ≡ policy
   pub named : image.place ≡ plan.source
   pub same : image.manifest ≡ fetched.bytes
   pub gave : ManifestEnds from None a b (Ok fetched)
   pub signed : SignaturesEnd from None a b (Ok image.signatures)
 
-taken_is : (policy : PolicyLists) (plan : CopyPlan) (a b : LaneTold) (it : Taken) → admission plan policy a b (Ok it) → (fetched : Fetched) × IsTaken policy plan it.from it.image fetched a b
-unfolding admission given
-taken_is policy plan a b it walk =
+taken_is : (policy : PolicyLists) (conf : Settings) (plan : CopyPlan) (a b : LaneTold) (it : Taken) → admission plan conf policy a b (Ok it) → (fetched : Fetched) × IsTaken policy conf plan it.from it.image fetched a b
+unfolding admission given found
+taken_is policy conf plan a b it walk =
     let one = then_ok walk in
     let kind = then_ok one.3 in
     let image = then_ok kind.3 in
     let signatures = then_ok image.3 in
     let last = then_ok signatures.3 in
-    let source = found_is plan.source a one.0 one.1 one.2 in
+    let source = found_is plan.src_tls conf plan.source a one.0 one.1 one.2 in
     let of_it = admitted_is policy plan.source one.1.fetched kind.1 image.1 signatures.1 last.1 last.2.1 in
     let is : it ≡ record { from = one.1.from; image = last.1 } = ok_same {E = Refusal} _ _ last.3.1 in
     let start : image.0 ≡ one.0 = image.2.0 ∙ kind.2.0 in
     let stop : b ≡ signatures.0 = last.3.0 ∙ last.2.0 in
     let read : SignaturesEnd one.1.from None one.0 b (Ok last.1.signatures) =
     subst (λ s. SignaturesEnd one.1.from None one.0 b (Ok s)) (sym of_it.signed)
-    (subst (λ x. SignaturesEnd one.1.from None x b (Ok signatures.1)) start (subst (λ y. SignaturesEnd one.1.from None image.0 y (Ok signatures.1)) (sym stop) signatures.2.0)) in (
+    (subst (λ x. SignaturesEnd one.1.from None x b (Ok signatures.1)) start (subst (λ y. SignaturesEnd one.1.from None image.0 y (Ok signatures.1)) (sym stop) signatures.2.0)) in
+    let behind : GoesOnAt one.1.from one.0 b = signatures_on one.1.from one.0 b (Ok last.1.signatures) read in (
       one.1.fetched,
       record {
-        source = source.source ∙ ap (λ (v : Taken). Ok v.from) (sym is);
+        answered = subst (λ (v : Taken). AnswersFor plan.src_tls conf plan.source (record { from = v.from; fetched = one.1.fetched }) a b) (sym is) (answers_on plan.src_tls conf plan.source one.1 a one.0 b source.answered behind);
         under = ap (λ (v : Taken). v.image.policy) is ∙ of_it.under;
         named = ap (λ (v : Taken). v.image.place) is ∙ of_it.named;
         same = ap (λ (v : Taken). v.image.manifest) is ∙ of_it.same;
-        gave = subst (λ (v : Taken). ManifestEnds v.from None a b (Ok one.1.fetched)) (sym is) (manifest_later one.1.from None a one.0 b (Ok one.1.fetched) source.gave);
-        signed = subst (λ (v : Taken). SignaturesEnd v.from None a b (Ok v.image.signatures)) (sym is) (signatures_earlier one.1.from None a one.0 b (Ok last.1.signatures) source.untouched read);
+        gave = subst (λ (v : Taken). ManifestEnds v.from None a b (Ok one.1.fetched)) (sym is) (manifest_on one.1.from a one.0 b (Ok one.1.fetched) source.gave behind);
+        signed = subst (λ (v : Taken). SignaturesEnd v.from None a b (Ok v.image.signatures)) (sym is) (signatures_earlier one.1.from None a one.0 b (Ok last.1.signatures) source.untouched source.on read);
       },
     )
-
 -- ---- the same on the first lane of all
 
-pub record HasTaken (policy : PolicyLists) (plan : CopyPlan) (from : Source) (image : Admission) (x y : List LaneTold) : Type 0 where
+answered_on : (tls : Option Bool) (conf : Settings) (place : Place) (it : Found) (a b : LaneTold) (x y : List LaneTold) → AnswersFor tls conf place it a b → Answered tls conf place (seen (a ∷ x) None 0) (seen (b ∷ y) None 0) it
+answered_on tls conf (Dir path) it a b x y is = is
+answered_on tls conf (Docker r) it a b x y is = record { sources = is.0; has = is.1; tried = is.2 }
+answered_on tls conf (Oci path name) it a b x y is = is
+
+answered_still : (tls : Option Bool) (conf : Settings) (place : Place) (it : Found) (x y z : List LaneTold) → OnFirst IsLater y z → Answered tls conf place (seen x None 0) (seen y None 0) it → Answered tls conf place (seen x None 0) (seen z None 0) it
+answered_still tls conf (Dir path) it x y z later is = is
+answered_still tls conf (Docker r) it x y z later is = record {
+  sources = is.sources;
+  has = is.has;
+  tried = (let R : LaneTold → LaneTold → Type 0 = λ a b. AreTried tls is.sources a b (Ok it) in first_then (Within R) IsLater (Within R) (within_later R) x y z is.tried later);
+}
+answered_still tls conf (Oci path name) it x y z later is = is
+
+pub record HasTaken (policy : PolicyLists) (conf : Settings) (plan : CopyPlan) (from : Source) (image : Admission) (x y : List LaneTold) : Type 0 where
   pub fetched : Fetched
-  pub source : source_at plan.source ≡ Ok from
+  pub answered : Answered plan.src_tls conf plan.source (seen x None 0) (seen y None 0) (record { from = from; fetched = fetched })
   pub under : image.policy ≡ policy
   pub named : image.place ≡ plan.source
   pub same : image.manifest ≡ fetched.bytes
   pub gave : OnFirst (λ a b. ManifestEnds from None a b (Ok fetched)) x y
   pub signed : OnFirst (λ a b. SignaturesEnd from None a b (Ok image.signatures)) x y
 
-pub taken_on : (policy : PolicyLists) (plan : CopyPlan) (x y : List LaneTold) (it : Taken) → 0 < length x → Ends call_course (on_first lane_course (admission plan policy)) (seen x None 0) (seen y None 0) (Ok it) → HasTaken policy plan it.from it.image x y
+pub taken_on : (policy : PolicyLists) (conf : Settings) (plan : CopyPlan) (x y : List LaneTold) (it : Taken) → 0 < length x → Ends call_course (on_first lane_course (admission plan conf policy)) (seen x None 0) (seen y None 0) (Ok it) → HasTaken policy conf plan it.from it.image x y
 unfolding Ends on_first
-taken_on policy plan [] y it some ends = absurd (omega arith)
-taken_on policy plan (a ∷ x) [] it some ends = absurd ends.ends.0
-taken_on policy plan (a ∷ x) (b ∷ y) it some ends =
-    let t = taken_is policy plan a b it ends.ends.0.ends in
-    record { fetched = t.0; source = t.1.source; under = t.1.under; named = t.1.named; same = t.1.same; gave = t.1.gave; signed = t.1.signed }
+taken_on policy conf plan [] y it some ends = absurd (omega arith)
+taken_on policy conf plan (a ∷ x) [] it some ends = absurd ends.ends.0
+taken_on policy conf plan (a ∷ x) (b ∷ y) it some ends =
+    let t = taken_is policy conf plan a b it ends.ends.0.ends in
+    record { fetched = t.0; answered = answered_on plan.src_tls conf plan.source _ a b x y t.1.answered; under = t.1.under; named = t.1.named; same = t.1.same; gave = t.1.gave; signed = t.1.signed }
 
 -- it is an image of the plan, however the lanes went on
-pub of_plan : (policy : PolicyLists) (plan : CopyPlan) (from : Source) (image : Admission) (x y z : List LaneTold) → HasTaken policy plan from image x y → IsAdmitted image → OnEach (λ place a b. IsLater a b) y z → IsOfPlan policy plan (seen x None 0) (seen z None 0) from image
-of_plan policy plan from image x y z taken admitted later = record {
+pub of_plan : (policy : PolicyLists) (conf : Settings) (plan : CopyPlan) (from : Source) (image : Admission) (x y z : List LaneTold) → HasTaken policy conf plan from image x y → IsAdmitted image → OnEach (λ place a b. IsLater a b) y z → IsOfPlan policy conf plan (seen x None 0) (seen z None 0) from image
+of_plan policy conf plan from image x y z taken admitted later = record {
   under = taken.under;
   as_named = taken.named;
-  answered = taken.source;
   fetched = taken.fetched;
-  gave = first_then (λ a b. ManifestEnds from None a b (Ok taken.fetched)) IsLater (λ a b. ManifestEnds from None a b (Ok taken.fetched)) (λ a b c m l. manifest_later from None a b c (Ok taken.fetched) m) x y z taken.gave (first_of (λ place a b. IsLater a b) y z later);
+  answered = answered_still plan.src_tls conf plan.source _ x y z (first_of (λ place a b. IsLater a b) y z later) taken.answered;
+  gave = first_then (λ a b. ManifestEnds from None a b (Ok taken.fetched)) IsLater (λ a b. ManifestEnds from None a b (Ok taken.fetched)) (λ a b c m l. manifest_later from None a b c (Ok taken.fetched) m l) x y z taken.gave (first_of (λ place a b. IsLater a b) y z later);
   same = taken.same;
   admitted = admitted;
 }
 
-pub signed_later : (policy : PolicyLists) (plan : CopyPlan) (from : Source) (image : Admission) (x y z : List LaneTold) → HasTaken policy plan from image x y → OnEach (λ place a b. IsLater a b) y z → OnFirst (λ a b. SignaturesEnd from None a b (Ok image.signatures)) x z
-signed_later policy plan from image x y z taken later = first_then (λ a b. SignaturesEnd from None a b (Ok image.signatures)) IsLater (λ a b. SignaturesEnd from None a b (Ok image.signatures)) (λ a b c m l. signatures_later from None a b c (Ok image.signatures) m) x y z taken.signed (first_of (λ place a b. IsLater a b) y z later)
+pub signed_later : (policy : PolicyLists) (conf : Settings) (plan : CopyPlan) (from : Source) (image : Admission) (x y z : List LaneTold) → HasTaken policy conf plan from image x y → OnEach (λ place a b. IsLater a b) y z → OnFirst (λ a b. SignaturesEnd from None a b (Ok image.signatures)) x z
+signed_later policy conf plan from image x y z taken later = first_then (λ a b. SignaturesEnd from None a b (Ok image.signatures)) IsLater (λ a b. SignaturesEnd from None a b (Ok image.signatures)) (λ a b c m l. signatures_later from None a b c (Ok image.signatures) m l) x y z taken.signed (first_of (λ place a b. IsLater a b) y z later)
 
 -- ---- and it comes from another place than it goes to
 
-pub apart_of : (plan : CopyPlan) (from : Source) (to : Dest) → IsBetweenPlaces plan → source_at plan.source ≡ Ok from → GoesTo plan.dest to → AreApart from to
-unfolding AreApart
-apart_of plan from to between is goes = by plan.source plan.dest from to between is goes
+registry_apart : (s : Source) (r : Reference) (d : Dest) → s ≡ source.Registry r → AreApart s d
+registry_apart s r d is = subst (λ x. AreApart x d) (sym is) (apart d)
   where
-    by : (s d : Place) (f : Source) (t : Dest) → ((path : List ℕ) → s ≡ Dir path → d ≢ Dir path) → source_at s ≡ Ok f → dest_at d ≡ Ok t → AreApart f t
-    by (Docker r) d f t between is goes = let none : ◌≡◌ {A = Result Source Refusal} (source_at (Docker r)) (Ok f) = is in cc
-    by (Oci p n) d f t between is goes = let none : ◌≡◌ {A = Result Source Refusal} (source_at (Oci p n)) (Ok f) = is in cc
-    by (Dir a) (Docker r) f t between is goes = let none : ◌≡◌ {A = Result Dest Refusal} (dest_at (Docker r)) (Ok t) = goes in cc
-    by (Dir a) (Oci p n) f t between is goes = let none : ◌≡◌ {A = Result Dest Refusal} (dest_at (Oci p n)) (Ok t) = goes in cc
-    by (Dir a) (Dir b) (source.Folder x) (dest.Folder y) between is goes = λ same. between a refl (ap Dir (let p : source.Folder a ≡ source.Folder x = ok_same {E = Refusal} _ _ is in let q : dest.Folder b ≡ dest.Folder y = ok_same {E = Refusal} _ _ goes in cc))
+    apart : (d : Dest) → AreApart (source.Registry r) d
+    unfolding AreApart
+    apart (dest.Folder path) = tt
+
+folders_apart : (s : Source) (path : List ℕ) (d : Dest) (to : Place) → s ≡ source.Folder path → to ≢ Dir path → GoesTo to d → AreApart s d
+folders_apart s path (dest.Folder y) to is other goes = subst (λ x. AreApart x (dest.Folder y)) (sym is) (apart to goes other)
+  where
+    apart : (to : Place) → dest_at to ≡ Ok (dest.Folder y) → to ≢ Dir path → AreApart (source.Folder path) (dest.Folder y)
+    unfolding AreApart
+    apart (Docker r) goes other = let no : ◌≡◌ {A = Result Dest Refusal} (dest_at (Docker r)) (Ok (dest.Folder y)) = goes in cc
+    apart (Oci p n) goes other = let no : ◌≡◌ {A = Result Dest Refusal} (dest_at (Oci p n)) (Ok (dest.Folder y)) = goes in cc
+    apart (Dir b) goes other = λ same. other (ap Dir (let q : dest.Folder b ≡ dest.Folder y = ok_same {E = Refusal} _ _ goes in cc))
+
+-- a registry that answered is none of the destination's folder
+first_from : (tls : Option Bool) (sources : List Location) (it : Found) (x y : List LaneTold) → 0 < length x → OnFirst (Within (λ a b. AreTried tls sources a b (Ok it))) x y → (r : Reference) × (it.from ≡ source.Registry r)
+first_from tls sources it [] y some on = absurd (omega arith)
+first_from tls sources it (a ∷ x) [] some on = absurd on
+first_from tls sources it (a ∷ x) (b ∷ y) some on = let g = tried_gave tls sources it on.first on.last on.is in (g.reference, g.from)
+
+pub apart_of : (policy : PolicyLists) (conf : Settings) (plan : CopyPlan) (from : Source) (image : Admission) (to : Dest) (x y : List LaneTold) → 0 < length x → IsBetweenPlaces plan → HasTaken policy conf plan from image x y → GoesTo plan.dest to → AreApart from to
+apart_of policy conf plan from image to x y some between taken goes = by plan.source taken.answered between
+  where
+    by : (s : Place) → Answered plan.src_tls conf s (seen x None 0) (seen y None 0) (record { from = from; fetched = taken.fetched }) → ((path : List ℕ) → s ≡ Dir path → plan.dest ≢ Dir path) → AreApart from to
+    by (Dir path) is apart = folders_apart from path to plan.dest is (apart path refl) goes
+    by (Docker r) is apart = let f = first_from plan.src_tls is.sources _ x y some is.tried in registry_apart from f.0 to f.1
+    by (Oci path name) is apart = absurd is

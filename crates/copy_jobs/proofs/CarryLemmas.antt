@@ -70,20 +70,20 @@ module _ (source : Source) (dest : Dest) (job : Job) (entry : LaneTold) (route :
   pub open_stopped : (e : Cause) (now : LaneTold) → FailsBy source job e entry now → is_mismatch e ≡ false → IsUntouched entry now → IsLater entry now → IsGivenUp source dest job e entry now
   open_stopped e now failed unjudged same later = record {
     failed = failed;
-    left = left_so source dest job entry now (part_untouched dest job entry now later same) (same_part dest job entry now same.files);
+    left = left_so source dest job entry now (part_untouched dest job entry now later.number same) (same_part dest job entry now same.files);
     dropped = never e unjudged;
-    only = part_untouched dest job entry now later same;
+    only = part_untouched dest job entry now later.number same;
     later = later;
   }
 
   module _ (blob : Blob) (a : LaneTold) (o : IsOpened source job blob entry a) (b : LaneTold) (part : OnlyPart dest job a b) (later : IsLater a b) where
     begun_only : OnlyPart dest job entry b
-    begun_only = part_then dest job entry a b (part_untouched dest job entry a o.later o.same) part
+    begun_only = part_then dest job entry a b (part_untouched dest job entry a o.later.number o.same) part
 
     -- it was not begun
     pub begin_stopped : (e : Cause) → FailsFreely e a b → b.files.tree ≡ a.files.tree → IsGivenUp source dest job e entry b
     begin_stopped e free same = record {
-      failed = fails_since source dest job entry route a b e (part_untouched dest job entry a o.later o.same) o.later (inl free);
+      failed = fails_since source dest job entry route a b e (part_untouched dest job entry a o.later.number o.same) o.later (inl free);
       left = left_so source dest job entry b begun_only (same_part dest job entry b (same ∙ o.same.files));
       dropped = never e (free_unjudged e free.free);
       only = begun_only;
@@ -91,13 +91,13 @@ module _ (source : Source) (dest : Dest) (job : Job) (entry : LaneTold) (route :
     }
 
     -- it was, and nothing has passed
-    pub none_passed : (upload : Upload) (digester : Digester) → Holds dest job upload a b [] → HasFed digester [] → IsPassing source dest job (record { blob = blob; upload = upload; digester = digester }) entry b 0
-    none_passed upload digester holds fed = record {
+    pub none_passed : b.from ≡ a.from → (upload : Upload) (digester : Digester) → Holds dest job upload a b [] → HasFed digester [] → IsPassing source dest job (record { blob = blob; upload = upload; digester = digester }) entry b 0
+    none_passed from upload digester holds fed = record {
       given = [];
       count = refl;
-      has = given_later source job blob entry a b [] o.has (spared_then source dest job entry route a b o.later part);
+      has = given_later source job blob entry a b [] o.has from later (spared_then source dest job entry route a b o.later later part);
       fed = fed;
-      holds = subst (Holds dest job upload entry b) (sym (take_all job.size [] (omega arith))) (holds_since dest job upload entry a b [] o.same o.later holds);
+      holds = subst (Holds dest job upload entry b) (sym (take_all job.size [] (omega arith))) (holds_since dest job upload entry a b [] o.same o.later.number holds);
       only = begun_only;
       later = later_then entry a b o.later later;
     }
@@ -124,7 +124,7 @@ module _ (source : Source) (dest : Dest) (job : Job) (entry : LaneTold) (route :
       pub blob_kept : (b : LaneTold) → judged job r.passing.given ≡ Ok r.passing.given → (Holds dest job p.upload entry a r.passing.given → HasBlob dest job entry b)
           → (Holds dest job p.upload entry a r.passing.given → AddsOnly dest (λ d. d ≡ job.digest) entry b) → KeepsBlobs dest job a b → Works dest a b → IsCarried source dest job entry b
       blob_kept b well has adds keeps works = record {
-        done = record { has = has holds_whole; how = inr (r.passing.given, blob_later source job entry a b (Ok r.passing.given) (subst (BlobEnds source job entry a) well blob_judged)) };
+        done = record { has = has holds_whole; how = inr (r.passing.given, blob_later source job entry a b (Ok r.passing.given) (subst (BlobEnds source job entry a) well blob_judged) (works_later dest a b works)) };
         adds = adds holds_whole;
         others = keeps_then dest job entry a b (part_keeps dest job entry a route.small r.passing.only) keeps;
         works = works_then dest entry a b (part_works dest job entry a route.digest route.small r.passing.later r.passing.only) works;
@@ -136,7 +136,7 @@ module _ (source : Source) (dest : Dest) (job : Job) (entry : LaneTold) (route :
         failed = fails_since source dest job entry route a b e r.passing.only r.passing.later (inl free);
         left = left_front source dest job entry b r.passing.given (part_then dest job entry a b r.passing.only part)
             (took_still dest job entry a b r.passing.given holds_whole.took same)
-            (front_later source job entry a b r.passing.given r.passing.has.front (spared_then source dest job entry route a b r.passing.later part));
+            (front_later source job entry a b r.passing.given r.passing.has.front (spared_then source dest job entry route a b r.passing.later (works_later dest a b works) part));
         dropped = never e (free_unjudged e free.free);
         only = part_then dest job entry a b r.passing.only part;
         later = later_then entry a b r.passing.later (works_later dest a b works);
@@ -164,14 +164,14 @@ module _ (source : Source) (dest : Dest) (job : Job) (entry : LaneTold) (route :
         only = part_then dest job entry a b r.passing.only g.part
 
         because : (told ≡ cause) ⊎ FailsFreely told a b → FailsBy source job told entry b
-        because (inl is) = inr (blob_later source job entry a b (Err told) (subst (BlobEnds source job entry a) (ill ∙ ap Err (sym is)) blob_judged))
+        because (inl is) = inr (blob_later source job entry a b (Err told) (subst (BlobEnds source job entry a) (ill ∙ ap Err (sym is)) blob_judged) g.later)
         because (inr free) = fails_since source dest job entry route a b told r.passing.only r.passing.later (inl free)
 
         left : LeavesNoPart dest job a b ⊎ (b.files.tree ≡ a.files.tree) → IsLeft source dest job entry b
         left (inl none) = left_so source dest job entry b only (gone_part dest job entry b (gone_since dest job entry a b r.passing.later none))
         left (inr same) = left_front source dest job entry b (take job.size r.passing.given) only
             (took_still dest job entry a b (take job.size r.passing.given) r.passing.holds.took same)
-            (front_later source job entry a b (take job.size r.passing.given) (front_take source job entry a r.passing.given job.size r.passing.has.front) (spared_then source dest job entry route a b r.passing.later g.part))
+            (front_later source job entry a b (take job.size r.passing.given) (front_take source job entry a r.passing.given job.size r.passing.has.front) (spared_then source dest job entry route a b r.passing.later g.later g.part))
 
         dropped : LeavesNoPart dest job a b ⊎ Rose a.files.faults b.files.faults → GivesUpPart dest job entry b
         dropped (inl none) = inl (gone_since dest job entry a b r.passing.later none)

@@ -5,4 +5,5 @@ pub mod SecureLemmas
 pub mod RunLemmas
 pub mod PassLemmas
 pub mod CarryLemmas
+pub mod CloseLemmas
 pub mod EndLemmas

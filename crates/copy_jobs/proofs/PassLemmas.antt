@@ -14,6 +14,7 @@ use Rattle.transports.specs.declared.blob.Blob.{Blob}
 use Rattle.transports.specs.declared.blob.Upload.{Upload}
 use Rattle.transports.specs.Blobs.{limit_of}
 use Rattle.transports.specs.Given.{Spares, GaveFront, GaveAll, HasGiven}
+use Rattle.transports.specs.Next.{GivesMore, GivesNoMore}
 use Rattle.transports.specs.Has.{IsUntouched}
 use Rattle.transports.specs.StepEnds.{FailsBy, FailsFreely}
 use Rattle.transports.specs.Uploads.{Holds, TookFront, TookSome, OnlyPart, is_mismatch}
@@ -48,44 +49,37 @@ cut_short given into some count fits few =
 
 module _ (source : Source) (dest : Dest) (job : Job) (entry : LaneTold) (route : IsRoute source dest job entry) where
   -- what is done to the part spares the source
-  pub spared : (now : LaneTold) → OnlyPart dest job entry now → Spares source entry now
-  spared now only = only_spares source dest entry now route.apart (part_at_dest dest job entry now route.small only)
+  pub spared : (now : LaneTold) → IsLater entry now → OnlyPart dest job entry now → Spares source entry now
+  spared now later only = only_spares source dest entry now route.apart later (part_at_dest dest job entry now route.small only)
 
   pub small_now : (now : LaneTold) → IsLater entry now → now.number < 2 ^ 64
   small_now now later = subst (λ n. n < 2 ^ 64) (sym later.number) route.small
 
-  pub spared_then : (a b : LaneTold) → IsLater entry a → OnlyPart dest job a b → Spares source a b
-  spared_then a b later only = only_spares source dest a b route.apart (part_at_dest dest job a b (small_now a later) only)
+  pub spared_then : (a b : LaneTold) → IsLater entry a → IsLater a b → OnlyPart dest job a b → Spares source a b
+  spared_then a b later after only = only_spares source dest a b route.apart after (part_at_dest dest job a b (small_now a later) only)
 
   -- why a step failed, since the entry
   pub fails_since : (a b : LaneTold) (e : Cause) → OnlyPart dest job entry a → IsLater entry a → FailsBy source job e a b → FailsBy source job e entry b
-  fails_since a b e only later failed = fails_earlier source dest job e entry a b later (λ r. blob_earlier source job entry a b (Err r) (spared a only)) failed
+  fails_since a b e only later failed = fails_earlier source dest job e entry a b later (λ r. blob_earlier source job entry a b (Err r) (spared a later only)) failed
 
-  module _ (p : Passing) (at : ℕ) (a m : LaneTold) (r : IsPassing source dest job p entry a at) (same : IsUntouched a m) (later : IsLater a m) where
-    -- what was added is a front of what was given
-    held_front : (b : LaneTold) → Spares source a b → GaveFront source job entry b (take job.size r.given)
-    held_front b spares = front_later source job entry a b (take job.size r.given) (front_take source job entry a r.given job.size r.has.front) spares
-
+  module _ (p : Passing) (at : ℕ) (a m : LaneTold) (r : IsPassing source dest job p entry a at) (same : IsUntouched a m) (number : m.number ≡ a.number) where
     read_only : OnlyPart dest job entry m
-    read_only = part_then dest job entry a m r.only (part_untouched dest job a m later same)
-
-    read_later : IsLater entry m
-    read_later = later_then entry a m r.later later
+    read_only = part_then dest job entry a m r.only (part_untouched dest job a m number same)
 
     -- reading stopped
-    pub read_stopped : (e : Cause) → FailsBy source job e a m → is_mismatch e ≡ false → Spares source a m → IsStopped source dest job e entry m
-    read_stopped e failed unjudged spares = record {
-      failed = fails_since a m e r.only r.later failed;
-      unjudged = unjudged;
-      left = left_front source dest job entry m (take job.size r.given) read_only (took_still dest job entry a m (take job.size r.given) r.holds.took same.files) (held_front m spares);
+    pub read_stopped : (e : Cause) → GivesNoMore source job e entry m r.given → IsStopped source dest job e entry m
+    read_stopped e no = record {
+      failed = no.failed;
+      unjudged = no.unjudged;
+      left = left_front source dest job entry m (take job.size r.given) read_only (took_still dest job entry a m (take job.size r.given) r.holds.took same.files) (front_take source job entry m r.given job.size no.front);
       only = read_only;
-      later = read_later;
+      later = no.later;
     }
 
     pub read_holds : Holds dest job p.upload entry m (take job.size r.given)
-    read_holds = holds_later dest job p.upload entry a m (take job.size r.given) r.holds same later
+    read_holds = holds_later dest job p.upload entry a m (take job.size r.given) r.holds same number
 
-    module _ (blob : Blob) (into : List ℕ) (count fits : ℕ) (next : HasGiven source job blob entry m (r.given ++ take count into)) (b : LaneTold) (part : OnlyPart dest job m b) (added : IsLater m b) where
+    module _ (blob : Blob) (into : List ℕ) (count fits : ℕ) (more : GivesMore source job blob entry m r.given into count) (b : LaneTold) (part : OnlyPart dest job m b) (added : IsLater m b) where
       whole : at ≤ job.size → take job.size r.given ≡ r.given
       whole few = take_all job.size r.given (let n = r.count in omega (arith, few, n))
 
@@ -93,16 +87,19 @@ module _ (source : Source) (dest : Dest) (job : Job) (entry : LaneTold) (route :
       add_only = part_then dest job entry m b read_only part
 
       add_later : IsLater entry b
-      add_later = later_then entry m b read_later added
+      add_later = later_then entry m b more.has.later added
+
+      spares : Spares source m b
+      spares = spared_then m b more.has.later added part
 
       -- adding stopped
       pub add_stopped : (e : Cause) → at ≤ job.size → fits ≤ count → TookSome dest job entry b (take job.size r.given) (take fits into) → FailsFreely e m b → IsStopped source dest job e entry b
       add_stopped e few within took free =
-          let next_front : GaveFront source job entry b (r.given ++ take count into) = front_later source job entry m b (r.given ++ take count into) next.front (spared_then m b read_later part) in
+          let next_front : GaveFront source job entry b (r.given ++ take count into) = front_later source job entry m b (r.given ++ take count into) more.has.front spares in
           let bytes : take job.size r.given ++ take took.count (take fits into) ≡ take (length r.given + min took.count fits) (r.given ++ take count into) =
           ap (λ l. l ++ take took.count (take fits into)) (whole few) ∙ cut_short r.given into took.count count fits within in
           record {
-            failed = fails_since m b e read_only read_later (inl free);
+            failed = fails_since m b e read_only more.has.later (inl free);
             unjudged = free_unjudged e free.free;
             left = left_front source dest job entry b (take (length r.given + min took.count fits) (r.given ++ take count into)) add_only
                 (subst (TookFront dest job entry b) bytes took.took)
@@ -112,15 +109,15 @@ module _ (source : Source) (dest : Dest) (job : Job) (entry : LaneTold) (route :
           }
 
       -- a piece was passed on
-      pub piece_passed : (upload : Upload) (digester : Digester) (room : ℕ) → at ≤ job.size → count ≤ room → length into ≡ room → fits ≡ min (job.size - at) count → HasFed digester (r.given ++ take count into)
-          → Holds dest job upload entry b (take job.size r.given ++ take fits into) → (count ≡ 0 → GaveAll source job entry m r.given)
+      pub piece_passed : b.from ≡ m.from → (upload : Upload) (digester : Digester) (room : ℕ) → at ≤ job.size → count ≤ room → length into ≡ room → fits ≡ min (job.size - at) count → HasFed digester (r.given ++ take count into)
+          → Holds dest job upload entry b (take job.size r.given ++ take fits into)
           → IsPassedOn source dest job (record { blob = blob; upload = upload; digester = digester }) entry b at room count
-      piece_passed upload digester room few within long is fed holds last = record {
+      piece_passed from upload digester room few within long is fed holds = record {
         few = within;
         passing = record {
           given = r.given ++ take count into;
           count = (let n = length-take count into in let k = r.count in length-append r.given (take count into) ∙ omega (arith, n, k, within, long));
-          has = given_later source job blob entry m b (r.given ++ take count into) next (spared_then m b read_later part);
+          has = given_later source job blob entry m b (r.given ++ take count into) more.has from added spares;
           fed = fed;
           holds = subst (Holds dest job upload entry b)
               (ap (λ l. l ++ take fits into) (whole few)
@@ -128,7 +125,7 @@ module _ (source : Source) (dest : Dest) (job : Job) (entry : LaneTold) (route :
           only = add_only;
           later = add_later;
         };
-        last = λ none. subst (GaveAll source job entry b) (nothing none) (all_later source job entry m b r.given (last none) (spared_then m b read_later part));
+        last = λ none. subst (GaveAll source job entry b) (nothing none) (all_later source job entry m b r.given (more.last none) spares);
       }
         where
           nothing : count ≡ 0 → r.given ≡ r.given ++ take count into

@@ -124,7 +124,7 @@ sound_failed l lane asked job e answer so works fails brings more = record {
   where
     since : FailsBy l.source job e l.origin lane
     since = fails_earlier l.source l.dest job e l.origin l.lane lane (works_later l.dest l.origin l.lane so.works)
-        (λ r. blob_earlier l.source job l.origin l.lane lane (Err r) (only_spares l.source l.dest l.origin l.lane so.apart (works_only l.dest l.origin l.lane so.works))) fails
+        (λ r. blob_earlier l.source job l.origin l.lane lane (Err r) (only_spares l.source l.dest l.origin l.lane so.apart (works_later l.dest l.origin l.lane so.works) (works_only l.dest l.origin l.lane so.works))) fails
 
 -- a job that was done now was done since the lane was made
 pub done_since : (l : LaneState) (lane : LaneTold) (job : Job) → IsSound l → IsDone l.source l.dest job l.lane lane → IsDone l.source l.dest job l.origin lane
@@ -132,19 +132,19 @@ done_since l lane job so done = record { has = has_earlier l.dest job l.origin l
   where
     by : IsReported l.dest job l.lane lane ⊎ ((bytes : List ℕ) × BlobEnds l.source job l.lane lane (Ok bytes)) → IsReported l.dest job l.origin lane ⊎ ((bytes : List ℕ) × BlobEnds l.source job l.origin lane (Ok bytes))
     by (inl r) = inl (reported_earlier l.dest job l.origin l.lane lane (works_later l.dest l.origin l.lane so.works) r)
-    by (inr g) = inr (g.0, blob_earlier l.source job l.origin l.lane lane (Ok g.0) (only_spares l.source l.dest l.origin l.lane so.apart (works_only l.dest l.origin l.lane so.works)) g.1)
+    by (inr g) = inr (g.0, blob_earlier l.source job l.origin l.lane lane (Ok g.0) (only_spares l.source l.dest l.origin l.lane so.apart (works_later l.dest l.origin l.lane so.works) (works_only l.dest l.origin l.lane so.works)) g.1)
 
 -- and it stays done where its blob is kept
-pub done_kept : (source : Source) (dest : Dest) (job : Job) (a b c : LaneTold) → IsDone source dest job a b → HasBlob dest job a c → IsDone source dest job a c
-done_kept source dest job a b c done has = record { has = has; how = by done.how }
+pub done_kept : (source : Source) (dest : Dest) (job : Job) (a b c : LaneTold) → IsDone source dest job a b → IsLater b c → HasBlob dest job a c → IsDone source dest job a c
+done_kept source dest job a b c done later has = record { has = has; how = by done.how }
   where
     by : IsReported dest job a b ⊎ ((bytes : List ℕ) × BlobEnds source job a b (Ok bytes)) → IsReported dest job a c ⊎ ((bytes : List ℕ) × BlobEnds source job a c (Ok bytes))
     by (inl r) = inl (reported_later dest job a b c r)
-    by (inr g) = inr (g.0, blob_later source job a b c (Ok g.0) g.1)
+    by (inr g) = inr (g.0, blob_later source job a b c (Ok g.0) g.1 later)
 
-pub keeps_carried : (l : LaneState) (lane : LaneTold) (asked : Answered) (job : Job) (answer : LaneAnswer) → KeepsBlobs l.dest job l.lane lane → Adds job.digest answer l.asked asked → Keeps lane_lore job l (after l lane asked l.failure)
-keeps_carried l lane asked job answer keeps adds = record {
-  stays = λ other apart done. done_kept l.source l.dest other l.origin l.lane lane done (keeps other l.origin apart done.has);
+pub keeps_carried : (l : LaneState) (lane : LaneTold) (asked : Answered) (job : Job) (answer : LaneAnswer) → IsLater l.lane lane → KeepsBlobs l.dest job l.lane lane → Adds job.digest answer l.asked asked → Keeps lane_lore job l (after l lane asked l.failure)
+keeps_carried l lane asked job answer later keeps adds = record {
+  stays = λ other apart done. done_kept l.source l.dest other l.origin l.lane lane done later (keeps other l.origin apart done.has);
   fails = λ other apart. refl;
   names = λ other apart. refl;
   asks = λ other apart. adds.others other.digest apart;
@@ -152,9 +152,9 @@ keeps_carried l lane asked job answer keeps adds = record {
   origin = refl;
 }
 
-pub keeps_failed : (l : LaneState) (lane : LaneTold) (asked : Answered) (job : Job) (e : Cause) (answer : LaneAnswer) → l.failure ≡ None → KeepsBlobs l.dest job l.lane lane → Adds job.digest answer l.asked asked → Keeps lane_lore job l (after l lane asked (Some (job, e)))
-keeps_failed l lane asked job e answer calm keeps adds = record {
-  stays = λ other apart done. done_kept l.source l.dest other l.origin l.lane lane done (keeps other l.origin apart done.has);
+pub keeps_failed : (l : LaneState) (lane : LaneTold) (asked : Answered) (job : Job) (e : Cause) (answer : LaneAnswer) → l.failure ≡ None → IsLater l.lane lane → KeepsBlobs l.dest job l.lane lane → Adds job.digest answer l.asked asked → Keeps lane_lore job l (after l lane asked (Some (job, e)))
+keeps_failed l lane asked job e answer calm later keeps adds = record {
+  stays = λ other apart done. done_kept l.source l.dest other l.origin l.lane lane done later (keeps other l.origin apart done.has);
   fails = λ other apart. other_fault job other e apart ∙ sym (ap (λ f. fault_of f other) calm);
   names = λ other apart. refl;
   asks = λ other apart. adds.others other.digest apart;

@@ -138,6 +138,7 @@ fn open_and_carry<W: Wire, F: Files>(
 }
 
 /// The same, and closes the connection to the source, of whose blob no more is wanted.
+#[tactic(auto, using(crate::proofs::CloseLemmas::carries_closed))]
 fn carry_and_close<W: Wire, F: Files>(
     lane: &mut Lane<W, F>,
     route: &Route<'_, W, F>,

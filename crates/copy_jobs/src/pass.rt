@@ -64,6 +64,7 @@ fn add_some<W: Wire, F: Files>(
         (entry : LaneTold) (bytes : List ℕ) → Holds to job upload.old entry lane.old bytes
         → OnlyPart to job lane.old lane.new }
     ensures later { IsLater lane.old lane.new }
+    ensures from { lane.new.from ≡ lane.old.from }
 {
     if piece.is_empty() {
         return Ok(());

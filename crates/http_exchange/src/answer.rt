@@ -77,6 +77,7 @@ pub fn open<W: Wire>(
     requires may { MaySend request.now 0 }
     ensures open { OnOk result (IsTrue (W.is_open wire.new)) }
     ensures closed { OnErr result (IsFalse (W.is_open wire.new)) }
+    ensures alive { IfOk result (λ answer. answer.reader.failed ≡ None) }
     ensures opened { OpensAnswer step request.now (W.conversations wire.old) (W.conversations wire.new) result }
     ensures one { GainsRequests (W.conversations wire.old) (W.conversations wire.new) }
     ensures faults { CountsWire (W.faults wire.old) (W.faults wire.new) result }
@@ -111,6 +112,7 @@ pub fn next_piece<W: Wire>(
     ensures piece { GivesPiece (W.conversations wire.old) (W.conversations wire.new) answer.old answer.new into.new result }
     ensures again { FaultAgain (W.conversations wire.old) (W.conversations wire.new) answer.old answer.new result }
     ensures stays { FaultStays answer.new result }
+    ensures alive { OnOk result (answer.new.reader.failed ≡ None) }
     ensures count { W.faults wire.old ≤ W.faults wire.new }
     ensures wire { IsErrOf result ExchangeFault.Wire → Rose (W.faults wire.old) (W.faults wire.new) ⊎ (answer.old.reader.failed ≡ Some AnswerFault.Wire) }
 {

@@ -1,5 +1,5 @@
 -- What was added at a destination, parts of blobs among it.
-use Rattle.std.proofs.Common.{◌≡◌, ◌≢◌, ◌⊎◌, ℕ, List, Option, Some, None, inl, inr, refl, subst}
+use Rattle.std.proofs.Common.{◌≡◌, ◌≢◌, ◌⊎◌, ℕ, List, inl, inr, refl, subst}
 use Rattle.skopeo_outside.specs.Tree.{Tree}
 use Rattle.skopeo_outside.specs.Outside.{Told}
 use Rattle.skopeo_outside.specs.LaneTold.{LaneTold}
@@ -7,7 +7,7 @@ use Rattle.skopeo_outside.specs.LaneLaws.{told_then, told_same}
 use Rattle.skopeo_outside.proofs.Trees.{path_cases}
 use Rattle.digest_reader.specs.declared.job.Job.{Job}
 use Rattle.layouts.specs.Trees.{SameOrGone, OnlyAt}
-use Rattle.layouts.specs.Paths.{IsIn, blob_path, blob_part}
+use Rattle.layouts.specs.Paths.{blob_path, blob_part}
 use Rattle.transports.specs.declared.source.Source.{Source}
 use Rattle.transports.specs.declared.dest.Dest.{Dest}
 use Rattle.transports.specs.declared.dest.Dest.TheVariants.{Folder}

@@ -18,7 +18,6 @@ use Rattle.layouts.specs.declared.read.Limited.{Limited}
 use Rattle.layouts.specs.declared.fault.LayoutFault.{LayoutFault}
 use Rattle.layouts.specs.declared.fault.LayoutFault.TheVariants as fault
 use Rattle.layouts.proofs.SignatureLaw.{are_signatures}
-use Rattle.transports.specs.declared.source.Source.{Source}
 use Rattle.transports.specs.declared.source.Source.TheVariants.{Folder}
 use Rattle.transports.specs.declared.refusal.Refusal.{Refusal}
 use Rattle.transports.specs.declared.refusal.Refusal.TheVariants as refusal
@@ -43,9 +42,6 @@ untouched_by a b on same = record { files = same; to = ap (λ w. w.talks) on.to 
 pub spares_by : (folder : List ℕ) (a b : LaneTold) → b.files.tree ≡ a.files.tree → Spares (Folder folder) a b
 unfolding Spares
 spares_by folder a b same = subst (λ x. Told (SameIn folder) a.files.tree x) (sym same) (told_same (SameIn folder) (λ t q here. refl) a.files.tree)
-
-pub spares_of : (s : Source) (a b : LaneTold) → b.files.tree ≡ a.files.tree → Spares s a b
-spares_of (Folder folder) a b same = spares_by folder a b same
 
 -- ---- how steps end
 

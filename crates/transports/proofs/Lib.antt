@@ -1,4 +1,9 @@
 pub mod ToldLemmas
+pub mod WithinLemmas
+pub mod AskLemmas
+pub mod RegistryLemmas
+pub mod TriedLemmas
+pub mod FoundLemmas
 pub mod SameLemmas
 pub mod GivenLemmas
 pub mod HasLemmas

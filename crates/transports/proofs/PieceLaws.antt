@@ -1,6 +1,6 @@
 -- The laws of blobs that are given and taken piece by piece.
-use Rattle.std.proofs.Common.{◌≡◌, ◌≢◌, ◌⊎◌, ◌∙◌, ◌<◌, ◌≤◌, ◌^◌, ℕ, zero, suc, min, List, [], ◌∷◌, true, false, Option, Some, None, Result, Err, IfSome, length, take, inl, inr, refl, sym, ap, subst, arith}
-use Rattle.std.proofs.lemmas.List.{take_all, length-take}
+use Rattle.std.proofs.Common.{◌≡◌, ◌≢◌, ◌⊎◌, ◌∙◌, ◌<◌, ◌≤◌, ◌^◌, ℕ, zero, suc, min, List, [], ◌∷◌, true, false, Option, Some, None, Result, Err, IfSome, length, take, drop, ◌++◌, append_assoc, inl, inr, refl, sym, ap, subst, arith}
+use Rattle.std.proofs.lemmas.List.{take_all, length-take, take-append-drop}
 use Rattle.skopeo_outside.specs.Tree.{Tree, file_at}
 use Rattle.skopeo_outside.specs.Outside.{Told}
 use Rattle.skopeo_outside.specs.LaneTold.{LaneTold, IsLater}
@@ -22,6 +22,15 @@ use Rattle.transports.specs.declared.blob.Upload.{Upload}
 use Rattle.transports.specs.Blobs.{limit_of, judged, looked_at}
 use Rattle.transports.specs.Refusals.{is_free_cause}
 use Rattle.transports.specs.Given.{SameIn, Spares, BlobEnds, IsFrontIn, IsAllIn, GaveFront, GaveAll}
+use Rattle.transports.specs.Registries.{request_of, LeadsTo, HasBody, BeginsWith, LooksAt, BlobAt, looked, refused, none, cause_at}
+use Rattle.transports.proofs.WithinLemmas.{within_as, within_later}
+use Rattle.transports.proofs.RegistryLemmas.{leads_as}
+use Rattle.skopeo_outside.specs.Wire.{Conversation, Conversations}
+use Rattle.http_message.specs.declared.request.Request.{Request}
+use Rattle.http_message.specs.declared.framing.Framing.{Framing}
+use Rattle.http_exchange.specs.Streaming.{IsFront}
+use Rattle.http_exchange.specs.Opening.{body_framing}
+use Rattle.http_exchange.specs.Talk.{is_get}
 use Rattle.transports.specs.StepEnds.{FailsBy}
 use Rattle.transports.specs.Has.{StandsIn, HasBlob, KeepsBlobs, IsUntouched, OnlyAtDest}
 use Rattle.transports.specs.Writes.{KeepsManifests, WritesNone}
@@ -37,6 +46,18 @@ looked_alike : (a b : Job) → a.digest ≡ b.digest → a.size ≡ b.size → (
 looked_alike a b digest size None = ap (λ d. looked_at (job_of d a.size) None) digest
 looked_alike a b digest size (Some all) = ap (λ d. looked_at (job_of d a.size) (Some all)) digest ∙ ap (λ s. looked_at (job_of b.digest s) (Some all)) size
 
+judged_alike : (a b : Job) → a.digest ≡ b.digest → a.size ≡ b.size → (bytes : List ℕ) → judged a bytes ≡ judged b bytes
+judged_alike a b digest size bytes = ap (λ d. judged (job_of d a.size) bytes) digest ∙ ap (λ s. judged (job_of b.digest s) bytes) size
+
+looks_alike : (q : Request) (a b : Job) (old new : Conversations) (bytes : List ℕ) → a.size ≡ b.size → LooksAt q a bytes old new → LooksAt q b bytes old new
+looks_alike q a b old new bytes size (inl h) = inl (h.0, subst (λ s. length bytes ≤ limit_of (job_of b.digest s)) size h.1)
+looks_alike q a b old new bytes size (inr h) = inr (h.0, subst (λ s. length bytes ≡ limit_of (job_of b.digest s)) size h.1)
+
+at_alike : (q : Request) (a b : Job) (old new : Conversations) (result : Result (List ℕ) Cause) → a.digest ≡ b.digest → a.size ≡ b.size → BlobAt q a old new result → BlobAt q b old new result
+at_alike q a b old new result digest size (looked bytes looks is) = looked bytes (looks_alike q a b old new bytes size looks) (is ∙ judged_alike a b digest size bytes)
+at_alike q a b old new result digest size (refused status other leads is) = refused status other leads (is ∙ ap (λ d. Err (cause_at (job_of d a.size) status)) digest)
+at_alike q a b old new result digest size (none fault cause gives same is) = none fault cause gives same is
+
 pub blob_alike : (s : Source) (a b : Job) (x y : LaneTold) (r : Result (List ℕ) Cause) → a.digest ≡ b.digest → a.size ≡ b.size → BlobEnds s a x y r → BlobEnds s b x y r
 unfolding BlobEnds
 blob_alike (source.Folder path) a b x y r digest size ends = by x.files.tree ends
@@ -44,6 +65,8 @@ blob_alike (source.Folder path) a b x y r digest size ends = by x.files.tree end
     by : (t : Option Tree) → IfSome t (λ t. r ≡ looked_at a (file_at t (blob_path path a.digest))) → IfSome t (λ t. r ≡ looked_at b (file_at t (blob_path path b.digest)))
     by None ends = tt
     by (Some t) ends = ends ∙ looked_alike a b digest size (file_at t (blob_path path a.digest)) ∙ ap (λ d. looked_at b (file_at t (blob_path path d))) digest
+blob_alike (source.Registry r) a b x y result digest size ends = within_as (λ s t. BlobAt (request_of r a) a s.from.talks t.from.talks result) (λ s t. BlobAt (request_of r b) b s.from.talks t.from.talks result)
+    (λ s t at. subst (λ d. BlobAt (request_of r (job_of d b.size)) b s.from.talks t.from.talks result) digest (at_alike (request_of r a) a b s.from.talks t.from.talks result digest size at)) x y ends
 
 pub fails_alike : (s : Source) (a b : Job) (e : Cause) (x y : LaneTold) → a.digest ≡ b.digest → a.size ≡ b.size → FailsBy s a e x y → FailsBy s b e x y
 fails_alike s a b e x y digest size (inl free) = inl free
@@ -93,6 +116,18 @@ front_take (source.Folder path) job a b given count front = by a.files.tree b.fi
     by None y f = tt
     by (Some t) None f = absurd f
     by (Some t) (Some u) f = fewer t u f
+front_take (source.Registry r) job a b given count front =
+    within_as (λ x y. LeadsTo (request_of r job) (BeginsWith given) x.from.talks y.from.talks) (λ x y. LeadsTo (request_of r job) (BeginsWith (take count given)) x.from.talks y.from.talks)
+    (λ x y l. leads_as (request_of r job) (BeginsWith given) (BeginsWith (take count given)) fewer x.from.talks y.from.talks l) a b front
+  where
+    cut : (f : Framing) (seen : List ℕ) → IsFront f given seen → IsFront f (take count given) seen
+    cut f seen i = record {
+      front = λ limit more body ended b. (let t = i.front limit more body ended b in
+          (drop count given ++ t.0, t.1 ∙ ap (λ (l : List ℕ). l ++ t.0) (sym (take-append-drop count given)) ∙ append_assoc (take count given) (drop count given) t.0));
+    }
+
+    fewer : (last : Request) (c : Conversation) → BeginsWith given last c → BeginsWith (take count given) last c
+    fewer last c w = record { h = w.h; seen = w.seen; opens = w.opens; status = w.status; front = cut (body_framing (is_get last) w.h) w.seen w.front }
 
 -- what was all of a blob is so still, where the source was spared
 pub all_later : (s : Source) (job : Job) (a b c : LaneTold) (given : List ℕ) → GaveAll s job a b given → Spares s b c → GaveAll s job a c given
@@ -101,6 +136,7 @@ all_later (source.Folder path) job a b c given all same =
     told_then (IsAllIn (blob_path path job.digest) given) (SameIn path) (IsAllIn (blob_path path job.digest) given)
     (λ x y z p q. record { was = p.was; is = q (blob_path path job.digest) (blob_in path job.digest) ∙ p.is })
     a.files.tree b.files.tree c.files.tree all same
+all_later (source.Registry r) job a b c given all later = within_later (λ x y. LeadsTo (request_of r job) (HasBody given) x.from.talks y.from.talks) a b c all later
 
 -- what was given of a blob, up to its end or as much as is looked at, is judged
 pub given_judged : (s : Source) (job : Job) (a b : LaneTold) (given : List ℕ) → GaveFront s job a b given → length given ≤ limit_of job → GaveAll s job a b given ⊎ (limit_of job ≤ length given) → BlobEnds s job a b (judged job given)
@@ -122,6 +158,12 @@ given_judged (source.Folder path) job a b given front few all = by a.files.tree 
     by None y f e = tt
     by (Some t) None f e = absurd f
     by (Some t) (Some u) f e = both t u f e
+given_judged (source.Registry r) job a b given front few (inl all) =
+    within_as (λ x y. LeadsTo (request_of r job) (HasBody given) x.from.talks y.from.talks) (λ x y. BlobAt (request_of r job) job x.from.talks y.from.talks (judged job given))
+    (λ x y l. looked given (inl (l, few)) refl) a b all
+given_judged (source.Registry r) job a b given front few (inr most) =
+    within_as (λ x y. LeadsTo (request_of r job) (BeginsWith given) x.from.talks y.from.talks) (λ x y. BlobAt (request_of r job) job x.from.talks y.from.talks (judged job given))
+    (λ x y l. looked given (inr (l, omega (arith, few, most))) refl) a b front
 
 -- ---- nothing but the part was touched
 
@@ -140,11 +182,11 @@ part_then (Folder path) job a b c r s =
     let more : Told (OnlyAt part) b.files.tree c.files.tree = subst (λ n. Told (OnlyAt (blob_part path job.digest n)) b.files.tree c.files.tree) r.2 s.0 in
     (told_then (OnlyAt part) (OnlyAt part) (OnlyAt part) (at_then part) a.files.tree b.files.tree c.files.tree r.0 more, s.1 ∙ r.1, s.2 ∙ r.2)
 
-pub part_untouched : (dest : Dest) (job : Job) (a b : LaneTold) → IsLater a b → IsUntouched a b → OnlyPart dest job a b
+pub part_untouched : (dest : Dest) (job : Job) (a b : LaneTold) → b.number ≡ a.number → IsUntouched a b → OnlyPart dest job a b
 unfolding OnlyPart
-part_untouched (Folder path) job a b later same =
+part_untouched (Folder path) job a b number same =
     let part = blob_part path job.digest a.number in
-    (subst (λ t. Told (OnlyAt part) a.files.tree t) (sym same.files) (told_same (OnlyAt part) (λ t. record { files = λ q other. refl; folders = refl }) a.files.tree), same.to, later.number)
+    (subst (λ t. Told (OnlyAt part) a.files.tree t) (sym same.files) (told_same (OnlyAt part) (λ t. record { files = λ q other. refl; folders = refl }) a.files.tree), same.to, number)
 
 pub part_at_dest : (dest : Dest) (job : Job) (a b : LaneTold) → a.number < 2 ^ 64 → OnlyPart dest job a b → OnlyAtDest dest a b
 unfolding OnlyPart OnlyAtDest
@@ -182,14 +224,14 @@ unfolding TookFront
 took_still (Folder path) job a b c bytes took same = subst (λ t. Told (IsPartHeld (blob_part path job.digest a.number) bytes) a.files.tree t) (sym same) took
 
 -- what an upload holds it holds since an earlier state, from which other things were read
-pub holds_since : (dest : Dest) (job : Job) (u : Upload) (a b c : LaneTold) (bytes : List ℕ) → IsUntouched a b → IsLater a b → Holds dest job u b c bytes → Holds dest job u a c bytes
+pub holds_since : (dest : Dest) (job : Job) (u : Upload) (a b c : LaneTold) (bytes : List ℕ) → IsUntouched a b → b.number ≡ a.number → Holds dest job u b c bytes → Holds dest job u a c bytes
 unfolding TookFront
-holds_since (Folder path) job u a b c bytes same later holds = record {
+holds_since (Folder path) job u a b c bytes same number holds = record {
   of_job = holds.of_job;
-  took = subst (λ n. Told (IsPartHeld (blob_part path job.digest n) bytes) a.files.tree c.files.tree) later.number
+  took = subst (λ n. Told (IsPartHeld (blob_part path job.digest n) bytes) a.files.tree c.files.tree) number
       (subst (λ t. Told (IsPartHeld (blob_part path job.digest b.number) bytes) t c.files.tree) same.files holds.took);
   held = holds.held;
-  number = holds.number ∙ later.number;
+  number = holds.number ∙ number;
 }
 
 -- ---- what is left

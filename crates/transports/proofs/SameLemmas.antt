@@ -34,6 +34,7 @@ untouched_same a = record { files = refl; to = refl }
 pub spares_same : (s : Source) (a : LaneTold) → Spares s a a
 unfolding Spares
 spares_same (source.Folder path) a = told_same (SameIn path) (λ t q here. refl) a.files.tree
+spares_same (source.Registry r) a = later_same a
 
 -- want of memory at once
 pub ends_at_once : {A : Type 0} (step : Step LaneTold Refusal A) (a : LaneTold) → Ends lane_course step a a (Err refusal.Memory)

@@ -294,12 +294,12 @@ blobs_kept folder job a b same other first differs has = subst (λ x. Told (λ s
 
 -- ---- what a blob that is being written holds while other things are read
 
-pub holds_later : (d : Dest) (job : Job) (u : Upload) (a b c : LaneTold) (bytes : List ℕ) → Holds d job u a b bytes → IsUntouched b c → IsLater b c → Holds d job u a c bytes
+pub holds_later : (d : Dest) (job : Job) (u : Upload) (a b c : LaneTold) (bytes : List ℕ) → Holds d job u a b bytes → IsUntouched b c → c.number ≡ b.number → Holds d job u a c bytes
 unfolding TookFront HeldAt
-holds_later (Folder folder) job u a b c bytes has same later = record {
+holds_later (Folder folder) job u a b c bytes has same number = record {
   of_job = has.of_job;
   took = subst (λ x. Told (IsPartHeld (blob_part folder job.digest a.number) bytes) a.files.tree x) (sym same.files) has.took;
-  held = subst (λ n. IfSome c.files.tree (λ t. file_at t (blob_part folder job.digest n) ≡ Some bytes)) (sym later.number)
+  held = subst (λ n. IfSome c.files.tree (λ t. file_at t (blob_part folder job.digest n) ≡ Some bytes)) (sym number)
       (subst (λ x. IfSome x (λ t. file_at t (blob_part folder job.digest b.number) ≡ Some bytes)) (sym same.files) has.held);
-  number = later.number ∙ has.number;
+  number = number ∙ has.number;
 }

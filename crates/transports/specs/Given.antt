@@ -2,7 +2,7 @@
 -- that stands above knows of them only these laws:
 --   what a step came to between two states it came to between wider ones (`Spares` before it, anything behind it);
 --   `Spares` is a preorder, and what is done at a destination apart from the source spares the source.
-use Rattle.std.specs.Prelude.{◌≡◌, ◌+◌, ◌≤◌, List, [], ℕ, Option, Some, None, Result, Ok, Err, IfSome, length, take}
+use Rattle.std.specs.Prelude.{◌≡◌, ◌+◌, ◌≤◌, false, List, [], ℕ, Option, Some, None, Result, Ok, Err, IfSome, length, take}
 use Rattle.skopeo_outside.specs.Tree.{Tree, file_at}
 use Rattle.skopeo_outside.specs.Folders.{joined}
 use Rattle.skopeo_outside.specs.Outside.{Told}
@@ -68,7 +68,7 @@ by_folder folder (Err fault) = Err (refusal_of folder fault)
 -- how the reading of the signatures ends; no signatures are stored beside an image at a registry yet
 unfoldable pub SignaturesEnd : Source → Option (List ℕ) → LaneTold → LaneTold → Result (List (List ℕ)) Refusal → Type 0
 SignaturesEnd (Folder path) part old new r = IfSome old.files.tree (λ t. r ≡ by_folder path (signatures_in (numbered t path (prefix_of part))))
-SignaturesEnd (Registry reference) part old new r = r ≡ Ok []
+SignaturesEnd (Registry reference) part old new r = (r ≡ Ok []) × IsLater old new
 
 -- ---- blobs
 

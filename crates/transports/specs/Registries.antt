@@ -1,7 +1,8 @@
 -- A registry as a source: what is asked of it for a reference, and what one exchange gives, by the conversations that a
 -- wire gained in it and no others.
-use Rattle.std.specs.Prelude.{◌≡◌, ◌≢◌, ◌⊎◌, ◌-◌, ◌≤◌, ◌==◌, ◌++◌, ◌∷◌, [], ℕ, false, List, codes, length, if◌then◌else◌, Option, Some, None, Result, Err}
+use Rattle.std.specs.Prelude.{◌≡◌, ◌≢◌, ◌⊎◌, ◌-◌, ◌≤◌, ◌==◌, ◌++◌, ◌∷◌, [], ℕ, false, List, true, codes, length, if◌then◌else◌, Option, Some, None, Result, Err}
 use Rattle.skopeo_outside.specs.Wire.{Conversation, Conversations, Gains}
+use Rattle.skopeo_outside.specs.Outside.{Rose}
 use Rattle.skopeo_outside.specs.LaneTold.{LaneTold, IsLater}
 use Rattle.skopeo_outside.specs.declared.words.Step.{Step}
 use Rattle.skopeo_outside.specs.declared.words.Step.TheVariants as step
@@ -12,6 +13,7 @@ use Rattle.httparse.specs.Grammar.{ResponseHead, status_code}
 use Rattle.http_message.specs.declared.request.Request.{Request}
 use Rattle.http_message.specs.declared.fault.ExchangeFault.{ExchangeFault}
 use Rattle.http_message.specs.declared.fault.ExchangeFault.TheVariants as long
+use Rattle.http_message.specs.declared.fault.AnswerFault.TheVariants as short
 use Rattle.http_message.specs.Outcome.{answer}
 use Rattle.http_message.specs.Faults.{shown}
 use Rattle.http_message.specs.Spelling.{answer_with}
@@ -133,14 +135,16 @@ pub record IsReadTo (a : Opened) (given : List ℕ) (r : Request) (c : Conversat
   pub streams : Streams a.reader (body_framing (is_get r) h) given seen c.ended
   pub noted : a.reader.held.first ≡ shown c.received
   pub step_is : a.step ≡ step.Blob
-  pub alive : a.reader.failed ≡ None
 
--- the answer was opened at some told state, and is the last conversation still; its wire is open unless all of it was given
+-- the answer was opened at some told state, and is the last conversation still; its wire is open unless all of it was given, and
+-- is blamed only where the count of its faults rose since
 pub record IsReading (r : Reference) (job : Job) (a : Opened) (given : List ℕ) (old new : LaneTold) : Type 0 where
   pub start : LaneTold
   pub before : IsLater old start
   pub leads : LeadsTo (request_of r job) (IsReadTo a given) start.from.talks new.from.talks
+  pub counts : start.from.faults ≤ new.from.faults
   pub ready : IsReady a.reader new.from.is_open
+  pub blames : a.reader.failed ≡ Some short.Wire → Rose start.from.faults new.from.faults
 
 -- nothing was done but that the connection to the source may have been closed
 pub record IsClosed (old new : LaneTold) : Type 0 where

@@ -101,4 +101,4 @@ AreTried tls [] old new result = (result ≡ Err []) × (new ≡ old)
 AreTried tls (s ∷ ss) old new result =
     ((found : Found) × IsTried tls s old new (Ok found) × (result ≡ Ok found))
     ⊎ ((between : LaneTold) × (cause : AttemptCause) × (rest : Result Found (List Attempt)) × IsTried tls s old between (Err cause)
-        × AreTried tls ss between new rest × (result ≡ behind (record { source = s.text; cause = cause }) rest))
+    × AreTried tls ss between new rest × (result ≡ behind (record { source = s.text; cause = cause }) rest))

@@ -42,7 +42,7 @@ pub(crate) fn registry_of(alloc: Global, reference: &ImageRef) -> Result<Registr
 }
 
 /// By which name the manifest of a reference is asked for.
-#[tactic(auto, using(crate::proofs::AskLemmas::is_tag, crate::proofs::AskLemmas::is_latest))]
+#[tactic(auto, using(crate::proofs::AskLemmas::is_named_tag, crate::proofs::AskLemmas::is_latest))]
 pub(crate) fn name_in(alloc: Global, reference: &ImageRef) -> Result<Text, Memory>
     ensures is { IfOk result (λ t. t ≡ name_in reference.now) }
     ensures named { IfOk result IsTagOrDigest }
@@ -138,10 +138,10 @@ pub(crate) fn next_piece<W: Wire, F: Files>(
     ensures on { OnSource lane.old lane.new }
 {
     match next_of_answer(alloc, &mut lane.from, answer, into) {
+        Err(fault) => return Err(exchange_by(fault, lane.from.faults())),
         Ok(count) => {
             *given += count as u64;
             Ok(count)
         }
-        Err(fault) => Err(exchange_by(fault, lane.from.faults())),
     }
 }

@@ -101,6 +101,7 @@ impl Source {
     }
 
     /// Closes the connection of a source of which no more is wanted.
+    #[tactic(auto, using(crate::proofs::RegistryLemmas::rests_folder, crate::proofs::RegistryLemmas::rests_closed))]
     pub fn close<W: Wire, F: Files>(&self, lane: &mut Lane<W, F>)
         ensures rests { Rests self.now lane.new }
         ensures same { IsClosed lane.old lane.new }

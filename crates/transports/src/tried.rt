@@ -1,14 +1,14 @@
 // Sources of an image that are tried in order.
-ghost use Rattle.std.specs.Prelude.{◌≡◌, List, Result, IfOk};
-ghost use Rattle.skopeo_outside.specs.LaneTold.{LaneTold, IsLater};
+ghost use Rattle.std.specs.Prelude.{◌≡◌, ◌++◌, ◌∷◌, [], ℕ, true, List, Some, IfOk, OnOk};
+ghost use Rattle.std.specs.Option.{option_map};
+ghost use Rattle.skopeo_outside.specs.LaneTold.{IsLater};
 ghost use Rattle.skopeo_outside.specs.Steps.{Ends};
 ghost use Rattle.transports.specs.Courses.{lane_course};
 ghost use Rattle.transports.specs.StepEnds.{reading};
 ghost use Rattle.transports.specs.Given.{Spares};
 ghost use Rattle.transports.specs.Has.{IsUntouched};
 ghost use Rattle.transports.specs.Found.{trying};
-ghost use Rattle.transports.specs.Tried.{AsksManifest, IsBy, IsTried, OnSource, checked, exchange_cause, fault_cause, found_at, may_ask};
-ghost use Rattle.std.specs.Prelude.{Some};
+ghost use Rattle.transports.specs.Tried.{AsksManifest, IsBy, IsTriedBy, IsTried, OnSource, checked, exchange_cause, fault_cause, found_at, may_ask};
 
 use crate::attempt::{Attempt, AttemptCause};
 use crate::found::Found;
@@ -124,7 +124,7 @@ fn ask_source<W: Wire, F: Files>(
     reference: &ImageRef,
     lane: &mut Lane<W, F>,
 ) -> Result<Result<Found, AttemptCause>, Memory>
-    ensures tried { IfOk result (λ x. (y : Result Fetched AttemptCause) × AsksManifest reference.now lane.old lane.new y × (x ≡ found_at reference.now y)) }
+    ensures tried { IfOk result (λ x. (text : List ℕ) → IsTriedBy true (Some reference.now) text lane.old lane.new x) }
     ensures on { OnSource lane.old lane.new }
     ensures later { IsLater lane.old lane.new }
 {

@@ -19,4 +19,4 @@ pass_all-requires-clause-passing g c =
     let r = c.args.route.now in
     let o = c.in_ok-upload.ensures in
     none_passed r.source.now r.dest.now r.job.now r.entry.value c.requires.route c.args.blob c.args.lane.now c.requires.opened c.begin_blob.new.lane o.part o.later
-    c.in_ok-upload.upload c.new.result o.begun c.new.ensures
+    o.from c.in_ok-upload.upload c.new.result o.begun c.new.ensures

@@ -5,6 +5,7 @@ use Rattle.copy_workers.specs.declared.asked.LaneAnswer.TheVariants as answer
 use Rattle.copy_workers.specs.Asked.{Adds}
 use Rattle.copy_workers.specs.Lanes.{Keeps}
 use Rattle.transports.proofs.BringLemmas.{part_brings, left_part}
+use Rattle.transports.proofs.WorkLemmas.{works_later}
 use Rattle.copy_jobs.specs.declared.lane.EngineLane.TheInside.{Inside}
 use Rattle.copy_jobs.specs.Lane.{LaneState, IsSound, fault_of, lane_lore}
 use Rattle.copy_jobs.proofs.StateLemmas.{after, calm_none, kept_failure, sound_carried, sound_failed, done_since, keeps_carried, keeps_failed}
@@ -31,7 +32,7 @@ returns-in-Ok-clause-kept g c =
     let l = shown c.self.inside in
     let adds : Adds c.args.job.now.digest answer.Carried l.asked c.carried.new.self = search rules in
     subst (λ o. Keeps lane_lore c.args.job.now o (after l c.carry_blob.new.lane c.carried.new.self l.failure)) c.self.view_is
-    (keeps_carried l c.carry_blob.new.lane c.carried.new.self c.args.job.now answer.Carried c.carry_blob.ensures.others adds)
+    (keeps_carried l c.carry_blob.new.lane c.carried.new.self c.args.job.now answer.Carried (works_later l.dest l.lane c.carry_blob.new.lane c.carry_blob.ensures.works) c.carry_blob.ensures.others adds)
 
 pub invariant_of-self-in-Err : goal.invariant_of-self-in-Err
 invariant_of-self-in-Err g c =
@@ -48,4 +49,4 @@ returns-in-Err-clause-kept g c =
     let adds : Adds c.args.job.now.digest answer.Failed l.asked c.carried-in-Err.new.self = search rules in
     subst (λ f. Keeps lane_lore c.args.job.now c.args.self.now (after l c.carry_blob.new.lane c.carried-in-Err.new.self f)) (kept_failure c.args.job.now c.failure_of.result.job c.in-Err.cause c.failure_of.result.cause.value c.failure_of.ensures.job c.failure_of.ensures.cause)
     (subst (λ o. Keeps lane_lore c.args.job.now o (after l c.carry_blob.new.lane c.carried-in-Err.new.self (Some (c.args.job.now, c.in-Err.cause)))) c.self.view_is
-    (keeps_failed l c.carry_blob.new.lane c.carried-in-Err.new.self c.args.job.now c.in-Err.cause answer.Failed (calm l c.args.self.now c.self.view_is c.requires.calm) c.carry_blob.ensures.others adds))
+    (keeps_failed l c.carry_blob.new.lane c.carried-in-Err.new.self c.args.job.now c.in-Err.cause answer.Failed (calm l c.args.self.now c.self.view_is c.requires.calm) (works_later l.dest l.lane c.carry_blob.new.lane c.carry_blob.ensures.works) c.carry_blob.ensures.others adds))
