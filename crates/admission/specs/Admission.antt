@@ -1,6 +1,6 @@
 -- An image that the policy admits (containers-policy.json(5), "Policy Requirements"), as the value `Admitted` shows it; and
 -- the fact that each such value stands for.
-use Rattle.std.specs.Prelude.{◌≡◌, ◌∷◌, [], ◌+◌, ◌-◌, ◌^◌, ◌<◌, List, ℕ, All, Option, Result, Ok, Err, ⊤, length}
+use Rattle.std.specs.Prelude.{◌∷◌, [], ◌+◌, ◌-◌, ◌^◌, ◌<◌, List, ℕ, All, Option, Result, Ok, Err, ⊤, length}
 use Rattle.skopeo_outside.specs.declared.words.Fetched.{Fetched}
 use Rattle.json_tree.specs.Tree.{tree}
 use Rattle.image_ref.specs.declared.place.Place.{Place}

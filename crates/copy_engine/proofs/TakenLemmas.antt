@@ -197,6 +197,7 @@ taken_is policy conf plan a b it walk =
         signed = subst (λ (v : Taken). SignaturesEnd v.from None a b (Ok v.image.signatures)) (sym is) (signatures_earlier one.1.from None a one.0 b (Ok last.1.signatures) source.untouched source.on read);
       },
     )
+
 -- ---- the same on the first lane of all
 
 answered_on : (tls : Option Bool) (conf : Settings) (place : Place) (it : Found) (a b : LaneTold) (x y : List LaneTold) → AnswersFor tls conf place it a b → Answered tls conf place (seen (a ∷ x) None 0) (seen (b ∷ y) None 0) it
@@ -248,17 +249,17 @@ signed_later policy conf plan from image x y z taken later = first_then (λ a b.
 -- ---- and it comes from another place than it goes to
 
 registry_apart : (s : Source) (r : Reference) (d : Dest) → s ≡ source.Registry r → AreApart s d
+unfolding AreApart
 registry_apart s r d is = subst (λ x. AreApart x d) (sym is) (apart d)
   where
     apart : (d : Dest) → AreApart (source.Registry r) d
-    unfolding AreApart
     apart (dest.Folder path) = tt
 
 folders_apart : (s : Source) (path : List ℕ) (d : Dest) (to : Place) → s ≡ source.Folder path → to ≢ Dir path → GoesTo to d → AreApart s d
+unfolding AreApart
 folders_apart s path (dest.Folder y) to is other goes = subst (λ x. AreApart x (dest.Folder y)) (sym is) (apart to goes other)
   where
     apart : (to : Place) → dest_at to ≡ Ok (dest.Folder y) → to ≢ Dir path → AreApart (source.Folder path) (dest.Folder y)
-    unfolding AreApart
     apart (Docker r) goes other = let no : ◌≡◌ {A = Result Dest Refusal} (dest_at (Docker r)) (Ok (dest.Folder y)) = goes in cc
     apart (Oci p n) goes other = let no : ◌≡◌ {A = Result Dest Refusal} (dest_at (Oci p n)) (Ok (dest.Folder y)) = goes in cc
     apart (Dir b) goes other = λ same. other (ap Dir (let q : dest.Folder b ≡ dest.Folder y = ok_same {E = Refusal} _ _ goes in cc))

@@ -1,7 +1,5 @@
 -- What became of a blob is so still when the connection to its source was closed.
-use Rattle.std.proofs.Common.{◌≡◌, ◌⊎◌, ◌∙◌, ℕ, List, Bool, true, false, Option, Some, None, Result, Ok, Err, inl, inr, refl, sym, ap, subst}
-use Rattle.skopeo_outside.specs.Tree.{Tree}
-use Rattle.skopeo_outside.specs.Outside.{Rose}
+use Rattle.std.proofs.Common.{◌≡◌, ◌⊎◌, ◌∙◌, ℕ, List, Bool, Result, Ok, Err, inl, inr, refl, sym, ap, subst}
 use Rattle.skopeo_outside.specs.LaneTold.{WireTold, FilesTold, LaneTold, IsLater}
 use Rattle.skopeo_outside.specs.LaneLaws.{later_same, later_then, told_same}
 use Rattle.digest_reader.specs.declared.job.Job.{Job}
@@ -14,16 +12,16 @@ use Rattle.transports.specs.declared.dest.Dest.TheVariants.{Folder}
 use Rattle.transports.specs.Refusals.{Blames}
 use Rattle.transports.specs.Registries.{IsClosed}
 use Rattle.transports.specs.Given.{SameIn, Spares, BlobEnds, GaveFront}
-use Rattle.transports.specs.Has.{HasBlob, KeepsBlobs, IsReported, OnlyAtDest}
-use Rattle.transports.specs.StepEnds.{IsDone, FailsBy, FailsFreely}
+use Rattle.transports.specs.Has.{HasBlob, IsReported, OnlyAtDest}
+use Rattle.transports.specs.StepEnds.{IsDone, FailsBy}
 use Rattle.transports.specs.Fair.{IsFairOn, Works}
 use Rattle.transports.specs.Named.{AddsOnly}
 use Rattle.transports.specs.Writes.{WritesNone}
-use Rattle.transports.specs.Uploads.{TookFront, OnlyPart, LeavesNoPart, SamePart, IsLeft, is_mismatch}
+use Rattle.transports.specs.Uploads.{TookFront, OnlyPart, LeavesNoPart, SamePart, IsLeft}
 use Rattle.transports.proofs.GivenLemmas.{blob_later, front_later}
 use Rattle.transports.proofs.HasLemmas.{reported_later}
 use Rattle.copy_jobs.specs.Lane.{GivesUpPart}
-use Rattle.copy_jobs.specs.Passed.{IsCarried, IsGivenUp, Carries}
+use Rattle.copy_jobs.specs.Passed.{Carries}
 
 -- the lane with another word on whether its connection to the source is open
 abbrev shut : LaneTold → Bool → LaneTold

@@ -1,5 +1,5 @@
 -- A blob that is carried piece by piece.
-use Rattle.std.proofs.Common.{◌≡◌, ◌∙◌, ◌+◌, ◌-◌, ◌<◌, ◌≤◌, ◌^◌, ◌++◌, ℕ, min, List, [], ◌∷◌, false, Result, Err, length, take, inl, refl, sym, ap, subst, length-append, arith}
+use Rattle.std.proofs.Common.{◌≡◌, ◌∙◌, ◌+◌, ◌-◌, ◌<◌, ◌≤◌, ◌^◌, ◌++◌, ℕ, min, List, [], ◌∷◌, Result, Err, length, take, inl, refl, sym, ap, subst, length-append, arith}
 use Rattle.std.proofs.lemmas.List.{take_all, length-take}
 use Rattle.std.proofs.Math.Seq.{take-append-add}
 use Rattle.skopeo_outside.specs.LaneTold.{LaneTold, IsLater}
@@ -13,11 +13,11 @@ use Rattle.transports.specs.declared.dest.Dest.{Dest}
 use Rattle.transports.specs.declared.blob.Blob.{Blob}
 use Rattle.transports.specs.declared.blob.Upload.{Upload}
 use Rattle.transports.specs.Blobs.{limit_of}
-use Rattle.transports.specs.Given.{Spares, GaveFront, GaveAll, HasGiven}
+use Rattle.transports.specs.Given.{Spares, GaveFront, GaveAll}
 use Rattle.transports.specs.Next.{GivesMore, GivesNoMore}
 use Rattle.transports.specs.Has.{IsUntouched}
 use Rattle.transports.specs.StepEnds.{FailsBy, FailsFreely}
-use Rattle.transports.specs.Uploads.{Holds, TookFront, TookSome, OnlyPart, is_mismatch}
+use Rattle.transports.specs.Uploads.{Holds, TookFront, TookSome, OnlyPart}
 use Rattle.transports.proofs.GivenLemmas.{only_spares, blob_earlier, front_later, given_later}
 use Rattle.transports.proofs.PieceLaws.{take_take, free_unjudged, front_take, all_later, part_then, part_untouched, part_at_dest, took_still, left_front}
 use Rattle.transports.proofs.UploadLemmas.{holds_later}
@@ -68,12 +68,12 @@ module _ (source : Source) (dest : Dest) (job : Job) (entry : LaneTold) (route :
 
     -- reading stopped
     pub read_stopped : (e : Cause) → GivesNoMore source job e entry m r.given → IsStopped source dest job e entry m
-    read_stopped e no = record {
-      failed = no.failed;
-      unjudged = no.unjudged;
-      left = left_front source dest job entry m (take job.size r.given) read_only (took_still dest job entry a m (take job.size r.given) r.holds.took same.files) (front_take source job entry m r.given job.size no.front);
+    read_stopped e stop = record {
+      failed = stop.failed;
+      unjudged = stop.unjudged;
+      left = left_front source dest job entry m (take job.size r.given) read_only (took_still dest job entry a m (take job.size r.given) r.holds.took same.files) (front_take source job entry m r.given job.size stop.front);
       only = read_only;
-      later = no.later;
+      later = stop.later;
     }
 
     pub read_holds : Holds dest job p.upload entry m (take job.size r.given)

@@ -60,7 +60,7 @@ returns g c =
           c.next_piece.new.blob into c.in_ok-count.count c.min-fits.result (o.gives entry p.given p.has) c.add_some.new.lane
           (c.in_ok-add_some.ensures.part entry _ holds) c.in_ok-add_some.ensures.later
           c.add_some.ensures.from c.add_some.new.upload c.feed.new.self (length c.args.into.now) (omega (arith, size, room)) o.count long fits (c.feed.ensures p.given p.fed)
-          (c.in_ok-add_some.ensures.added entry _ holds) (o.last entry p.given p.has);
+          (c.in_ok-add_some.ensures.added entry _ holds);
     }
 
 pub next_piece-requires-clause-ready : goal.next_piece-requires-clause-ready
