@@ -75,6 +75,7 @@ use Rattle.skopeo_app.specs.Conf.{no_conf, conf_end}
 use Rattle.skopeo_app.specs.Rules.{rules_end}
 use Rattle.skopeo_app.specs.Task.{conf_choice_of, task_of}
 use Rattle.skopeo_app.specs.Headline.{first_tree}
+use Rattle.skopeo_app.specs.Rows.{image_row, row_of}
 use Rattle.skopeo_app.specs.Lines.{status_of}
 use Rattle.skopeo_app.specs.Ending.{copy_done, of_image, image_of_task, on_lanes, printing, copy_end, task_end, ending}
 use Rattle.skopeo_app.specs.Answer.{CommandEnds}
@@ -628,6 +629,7 @@ module _ (tree : Tree) (home cwd : List ℕ) (task : CopyTask) (folder target : 
 -- ---- and its status
 
 memory_four : (e : CommandRefusal) → is_memory e ≡ true → status_of (Err e) ≡ 4
+unfolding row_of image_row
 memory_four (Image image.Memory) memory = refl
 memory_four (Image (image.Files n)) memory = let no : false ≡ true = memory in cc
 memory_four (Image (image.Wire n)) memory = let no : false ≡ true = memory in cc

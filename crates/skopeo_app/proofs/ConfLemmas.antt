@@ -1,6 +1,7 @@
 -- The configuration of the registries that counts, as a step of a lane.
 use Rattle.std.proofs.Common.{◌≡◌, ◌∙◌, ◌⊎◌, [], List, ℕ, Bool, true, false, Result, Ok, Err, IfOk, inl, inr, refl, sym, ap, subst}
-use Rattle.toml.specs.Parse.{parse_document}
+use Rattle.std.specs.Str.{is_utf8}
+use Rattle.toml.proofs.OnLiterals.{toml_on_literals}
 use Rattle.skopeo_outside.specs.LaneTold.{LaneTold}
 use Rattle.skopeo_outside.specs.LaneLaws.{later_same}
 use Rattle.skopeo_outside.specs.Steps.{Ends, Says}
@@ -26,7 +27,7 @@ use Rattle.skopeo_app.proofs.ReadLemmas.{quiet_same, quiet_untouched, err_same, 
 -- ---- what bytes say
 
 empty_says : conf_in [] ≡ Ok no_conf
-unfolding parse_document settings_of checked
+unfolding toml_on_literals settings_of checked is_utf8
 empty_says = refl
 
 value_same : (c d : Settings) → ◌≡◌ {A = Result Settings ConfFault} (Ok c) (Ok d) → c ≡ d

@@ -1,8 +1,9 @@
 -- The policy and the configuration that were read on the first lane are those that count.
 use Rattle.std.proofs.Common.{◌≡◌, ◌∙◌, ◌<◌, Bool, true, false, List, [], ◌∷◌, ℕ, length, nat_le, cond, Option, Some, None, Result, Ok, Err, ◌⊎◌, inl, inr, IfSome, IfOk, slice_index_or, slice_set, refl, sym, ap, subst, arith}
 use Rattle.skopeo_outside.specs.Tree.{Tree, file_at}
-use Rattle.skopeo_outside.specs.LaneTold.{LaneTold}
-use Rattle.skopeo_outside.specs.Seen.{seen}
+use Rattle.skopeo_outside.specs.LaneTold.{LaneTold, IsLater}
+use Rattle.skopeo_outside.specs.LaneLaws.{later_same}
+use Rattle.skopeo_outside.specs.Seen.{AreLanes, seen}
 use Rattle.skopeo_outside.specs.Steps.{Then, goes, stops, ◌>>=◌, given, Ends}
 use Rattle.skopeo_outside.proofs.FirstLemmas.{first_set, set_each, set_keeps}
 use Rattle.layouts.specs.Bounds.{limited, limited_by, limit, whole_of, bounded_by}
@@ -33,7 +34,8 @@ use Rattle.skopeo_app.specs.Conf.{conf_name, no_conf, invalid_conf, or_bad, abse
 use Rattle.skopeo_app.specs.Rules.{rules_end}
 use Rattle.skopeo_app.specs.Headline.{SaysPolicy, Counts, SaysConf, MaySay, ConfCounts, RulesCount, first_tree}
 use Rattle.skopeo_app.specs.Reads.{IsQuiet, ReadsAs, ReadsFirst}
-use Rattle.skopeo_app.proofs.ReadLemmas.{quiet_same}
+use Rattle.copy_engine.proofs.LiftLemmas.{lanes_later}
+use Rattle.skopeo_app.proofs.ReadLemmas.{quiet_same, quiet_later}
 use Rattle.skopeo_app.proofs.RulesLemmas.{rules_of, both}
 
 bounded_is : (most : ℕ) (file : Option (List ℕ)) (bytes : List ℕ) → bounded_by most file ≡ Some bytes → file ≡ Some bytes
@@ -152,6 +154,10 @@ module _ (home cwd : List ℕ) (task : CopyTask) (rules : Rules) where
 first_is : (old : List LaneTold) (x : LaneTold) → 0 < length old → slice_index_or old 0 x ≡ x → first_tree old ≡ x.files.tree
 first_is [] x some is = absurd (omega (arith, some))
 first_is (a ∷ rest) x some is = ap (λ l. l.files.tree) is
+
+-- lanes of which the first has read files alone
+pub first_lanes : (old : List LaneTold) (x y : LaneTold) → slice_index_or old 0 x ≡ x → IsQuiet x y → AreLanes old → AreLanes (slice_set old 0 y)
+first_lanes old x y is quiet lanes = lanes_later old (slice_set old 0 y) (set_each (λ place a b. IsLater a b) (λ place a. later_same a) old x y is (quiet_later x y quiet)) lanes
 
 -- what was read on the first lane, over all lanes
 pub first_reads : (home cwd : List ℕ) (task : CopyTask) (old : List LaneTold) (x y : LaneTold) (r : Result Rules CommandRefusal) → 0 < length old → slice_index_or old 0 x ≡ x

@@ -145,7 +145,7 @@ path_by path p (Some t) is = ap Ok is
 
 -- a path was found
 pub path_reads : (path : Tree → List ℕ) (p : List ℕ) (a b : LaneTold) → IsQuiet a b → IfSome a.files.tree (λ t. p ≡ path t) → ReadsAs (by_files (λ t. Ok (path t))) a b (Ok p)
-unfolding Ends by_files
+unfolding Ends by_files lane_course
 path_reads path p a b q is = record { ends = record { later = quiet_later a b q; ends = (path_by path p a.files.tree is, quiet_untouched a b q) }; quiet = q; other = tt }
 
 system_is : (home cwd name : List ℕ) (x : Option Tree) → length home ≡ 0 → IfSome x (λ t. system_path name ≡ usual_path t home cwd name)

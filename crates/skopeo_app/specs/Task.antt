@@ -26,6 +26,7 @@ use Rattle.skopeo_app.specs.declared.task.PolicyChoice.{PolicyChoice}
 use Rattle.skopeo_app.specs.declared.task.PolicyChoice.TheVariants.{Anything, Named, Usual}
 use Rattle.skopeo_app.specs.declared.task.ConfChoice.{ConfChoice}
 use Rattle.skopeo_app.specs.declared.task.ConfChoice.TheVariants as conf
+use Rattle.skopeo_app.specs.declared.task.CopyTask.{CopyTask}
 use Rattle.skopeo_app.specs.declared.task.Task.{Task}
 use Rattle.skopeo_app.specs.declared.task.Task.TheVariants.{Page, Copy}
 
@@ -62,12 +63,16 @@ by_conf_path cwd None = conf.Usual
 abbrev pub conf_choice_of : List ℕ → Common → Place → ConfChoice
 conf_choice_of cwd common source = if is_registry source then by_conf_path cwd common.registries_conf else conf.Unread
 
+-- the copy of a plan, with what its options choose
+abbrev pub chosen : List ℕ → Common → Bool → CopyPlan → CopyTask
+chosen cwd common quiet plan = record { policy = choice_of cwd common; conf = conf_choice_of cwd common plan.source; quiet = quiet; plan = plan }
+
 -- one copy
 unfoldable pub copy_of : List ℕ → Common → Passing → Bool → Bool → List ℕ → List ℕ → Result Task CommandRefusal
 copy_of cwd common passing quiet short_names source dest = do
   plan ← plan_of cwd (lanes_for common) passing.src_tls source dest
   _ ← built common passing short_names plan
-  Ok (Copy (record { policy = choice_of cwd common; conf = conf_choice_of cwd common plan.source; quiet = quiet; plan = plan }))
+  Ok (Copy (chosen cwd common quiet plan))
 
 -- what a copy needs
 abbrev pub IsSound : Task → Type 0

@@ -12,7 +12,7 @@ system_path name = codes "/etc/containers/" ++ name
 
 -- the user's
 abbrev pub user_path : List ℕ → List ℕ → List ℕ → List ℕ
-user_path home cwd name = cleaned cwd (home ++ (codes "/.config/containers/" ++ name))
+user_path home cwd name = cleaned cwd ((home ++ codes "/.config/containers/") ++ name)
 
 -- the user's where it is there, else the system's; no user is at home at the empty path
 abbrev pub usual_path : Tree → List ℕ → List ℕ → List ℕ → List ℕ

@@ -1,7 +1,7 @@
 // Refusals as rows.
 ghost use Rattle.std.specs.Prelude.{◌≡◌, IfOk};
 ghost use Rattle.std.specs.String.{string_bytes};
-ghost use Rattle.skopeo_app.specs.Words.{unbuilt_word, part_word};
+ghost use Rattle.skopeo_app.specs.Words.{unbuilt_word, part_word, conf_word, conf_member};
 ghost use Rattle.skopeo_app.specs.Rows.{words_row, memory_row, reference_row, missing_row, policy_row, conf_row, blocked_row, sources_row, digest_row, rewrite_row, tls_row, scope_field, rejected_row, manifest_row, mismatch_row, absent_row, dest_row, folder_row, same_row, large_row, answer_row, source_row, encoded_row, redirects_row, unbuilt_row, wire_row, files_row, output_row, cause_row, attempt_row, job_row, image_row, row_of};
 ghost use Rattle.skopeo_app.specs.Lines.{json_text, field_text, as_printed, printed, printed_in_job};
 

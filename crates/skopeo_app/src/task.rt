@@ -5,7 +5,7 @@ ghost use Rattle.skopeo_outside.specs.Steps.{Says};
 ghost use Rattle.skopeo_app.specs.Refusals.{is_output};
 ghost use Rattle.skopeo_app.specs.Courses.{command_course};
 ghost use Rattle.skopeo_app.specs.Plan.{place_at, is_folder, is_registry, folder_in, are_same, apart, lanes_for, plan_of};
-ghost use Rattle.skopeo_app.specs.Task.{asks_more, are_built, built, by_path, choice_of, by_conf_path, conf_choice_of, copy_of, unbuilt_at, unbuilt_sync, task_in, IsSound, task_of};
+ghost use Rattle.skopeo_app.specs.Task.{asks_more, are_built, built, by_path, choice_of, by_conf_path, conf_choice_of, chosen, copy_of, unbuilt_at, unbuilt_sync, task_in, IsSound, task_of};
 
 use crate::refusal::{CommandRefusal, Unbuilt};
 use copy_engine::{CopyPlan, Refusal};
@@ -229,6 +229,26 @@ fn conf_choice_of(
     }
 }
 
+/// The copy of a plan, with what its options choose.
+fn chosen(
+    alloc: Global,
+    cwd: &str,
+    common: &Common,
+    quiet: bool,
+    plan: CopyPlan,
+) -> Result<CopyTask, Memory>
+    ensures { IfOk result (λ task. task ≡ chosen cwd.now common.now quiet plan) }
+{
+    let policy = choice_of(alloc, cwd, common)?;
+    let conf = conf_choice_of(alloc, cwd, common, &plan.source)?;
+    Ok(CopyTask {
+        policy,
+        conf,
+        quiet,
+        plan,
+    })
+}
+
 /// A copy that is asked for with a command's options.
 #[tactic(auto, using(crate::proofs::TaskLemmas::then_says, crate::proofs::TaskLemmas::then_refuses, crate::proofs::TaskLemmas::says_value, crate::proofs::TaskLemmas::says_memory, crate::proofs::TaskLemmas::sound), unfolding(crate::specs::Task::copy_of))]
 fn copy_of(
@@ -247,14 +267,8 @@ fn copy_of(
 {
     let plan = plan_of(alloc, cwd, lanes_for(common), passing.src_tls, source, dest)?;
     require_built(common, passing, short_names, &plan)?;
-    let policy = choice_of(alloc, cwd, common)?;
-    let conf = conf_choice_of(alloc, cwd, common, &plan.source)?;
-    Ok(Task::Copy(CopyTask {
-        policy,
-        conf,
-        quiet,
-        plan,
-    }))
+    let task = chosen(alloc, cwd, common, quiet, plan)?;
+    Ok(Task::Copy(task))
 }
 
 /// Reads the place of a command that is not built, and refuses it.
