@@ -4,11 +4,22 @@ ghost use Rattle.skopeo_outside.specs.Seen.{AreLanes};
 
 use crate::meeting::{Meeting, World};
 use skopeo_app::skopeo;
-use skopeo_outside::{Failures, Idle, Lane, Many, MemFiles, MemSink, Memory, Shelf, Text};
+use skopeo_outside::{
+    Failures, Idle, Lane, Many, MapPeer, MemFiles, MemSink, Memory, PeerFraming, Shelf, SureWire,
+    Text,
+};
 use std::alloc::Global;
 use std::sync::atomic::Ordering;
 use std::test::Fail;
 use std::thread::Threads;
+
+const FROM_FOLDER: &str = "dir:src";
+
+const FROM_REGISTRY: &str = "--src-tls-verify=false docker://reg.local/ns/app:1";
+
+const SCHEMA_2: &str = "application/vnd.docker.distribution.manifest.v2+json";
+
+const CONFIG: &str = "sha256:44136fa355b3678a1146ad16f7e8649e94fb4fc21fe77e8310c060f61caaff8a";
 
 const ACCEPT: &[u8] = b"{\"default\":[{\"type\":\"insecureAcceptAnything\"}]}";
 
@@ -107,6 +118,25 @@ fn make_manifest(alloc: Global) -> Result<Text, Memory> {
     Ok(manifest)
 }
 
+fn bytes_of(alloc: Global, text: &str) -> Result<Many<u8>, Memory> {
+    let mut bytes = Many::new(alloc);
+    bytes.extend(text.as_bytes())?;
+    Ok(bytes)
+}
+
+/// A registry with the image as `ns/app:1`.
+fn registry(alloc: Global) -> Result<MapPeer, Memory> {
+    let mut peer = MapPeer::new(alloc, PeerFraming::Chunks(3));
+    let manifest = make_manifest(alloc)?;
+    peer.put_manifest("ns/app", "1", SCHEMA_2, bytes_of(alloc, manifest.as_str())?)?;
+    peer.put_blob("ns/app", CONFIG, bytes_of(alloc, "{}")?)?;
+    for (digits, text) in &LAYERS {
+        let digest = format!(in alloc; "sha256:{digits}")?;
+        peer.put_blob("ns/app", digest.as_str(), bytes_of(alloc, text)?)?;
+    }
+    Ok(peer)
+}
+
 /// Adds the image in `src`. The digest of the configuration is that of `{}`.
 fn add_image(alloc: Global, shelf: &mut Shelf) -> Result<(), Memory> {
     let manifest = make_manifest(alloc)?;
@@ -122,20 +152,20 @@ fn add_image(alloc: Global, shelf: &mut Shelf) -> Result<(), Memory> {
     Ok(())
 }
 
-/// A lane with the image and a policy, which meets the others in this world.
+/// A lane with the image in a folder and at a registry, and a policy, which meets the others in this world.
 fn make_lane<'w>(
     alloc: Global,
     world: &'w World,
     number: u32,
-) -> Result<Lane<Idle, Meeting<'w, MemFiles>>, Memory>
+) -> Result<Lane<SureWire<MapPeer>, Meeting<'w, MemFiles>>, Memory>
     ensures { IfOk result (λ lane. lane.number ≡ number) }
 {
     let mut files = MemFiles::new(alloc, Vec::new(alloc));
     files.shelf.add("/w/p", ACCEPT)?;
     add_image(alloc, &mut files.shelf)?;
     Ok(Lane {
-        from: Idle::new(),
-        to: Idle::new(),
+        from: SureWire::new(alloc, registry(alloc)?, 5),
+        to: SureWire::new(alloc, MapPeer::new(alloc, PeerFraming::Length), 5),
         files: Meeting {
             world,
             has_met: false,
@@ -151,7 +181,7 @@ fn make_lanes<'w>(
     alloc: Global,
     world: &'w World,
     count: u32,
-) -> Result<Vec<Lane<Idle, Meeting<'w, MemFiles>>>, Memory>
+) -> Result<Vec<Lane<SureWire<MapPeer>, Meeting<'w, MemFiles>>>, Memory>
     requires count { (0 < count) × (count ≤ 16) }
     ensures { IfOk result (λ lanes. AreLanes lanes.items) }
 {
@@ -179,12 +209,17 @@ fn sink(alloc: Global) -> MemSink {
     }
 }
 
-/// How a copy over so many lanes of this world ends.
-fn copy<R: Threads + Sync + AllocGlobal>(rt: &R, world: &World, count: u32) -> Result<u8, Memory>
+/// How a copy from this source over so many lanes of this world ends.
+fn copy<R: Threads + Sync + AllocGlobal>(
+    rt: &R,
+    world: &World,
+    source: &str,
+    count: u32,
+) -> Result<u8, Memory>
     requires count { (0 < count) × (count ≤ 16) }
 {
     let alloc = rt.alloc();
-    let text = format!(in alloc; "--lanes {count} --policy /w/p copy dir:src dir:dst")?;
+    let text = format!(in alloc; "--lanes {count} --policy /w/p copy {source} dir:dst")?;
     let words = words_of(alloc, text.as_str())?;
     let mut lanes = make_lanes(alloc, world, count)?;
     Ok(skopeo(
@@ -205,7 +240,20 @@ fn copy<R: Threads + Sync + AllocGlobal>(rt: &R, world: &World, count: u32) -> R
 fn lanes_run_together(rt: HostRuntime) -> Result<(), Fail> {
     for count in [2u32, 16] {
         let world = World::new(count, 1_000_000_000);
-        let status = copy(&rt, &world, count)?;
+        let status = copy(&rt, &world, FROM_FOLDER, count)?;
+        assert_eq!(rt; status, 0, "{count}");
+        assert_eq!(rt; world.begun.load(Ordering::SeqCst), u64::from(count));
+        assert_eq!(rt; world.in_vain.load(Ordering::SeqCst), 0, "{count}");
+    }
+    Ok(())
+}
+
+/// The same from a registry.
+#[test]
+fn lanes_run_together_from_a_registry(rt: HostRuntime) -> Result<(), Fail> {
+    for count in [2u32, 16] {
+        let world = World::new(count, 1_000_000_000);
+        let status = copy(&rt, &world, FROM_REGISTRY, count)?;
         assert_eq!(rt; status, 0, "{count}");
         assert_eq!(rt; world.begun.load(Ordering::SeqCst), u64::from(count));
         assert_eq!(rt; world.in_vain.load(Ordering::SeqCst), 0, "{count}");
@@ -217,7 +265,7 @@ fn lanes_run_together(rt: HostRuntime) -> Result<(), Fail> {
 #[test]
 fn one_lane_waits_in_vain(rt: HostRuntime) -> Result<(), Fail> {
     let world = World::new(2, 1000);
-    let status = copy(&rt, &world, 1)?;
+    let status = copy(&rt, &world, FROM_FOLDER, 1)?;
     assert_eq!(rt; status, 0);
     assert_eq!(rt; world.begun.load(Ordering::SeqCst), 1);
     assert_eq!(rt; world.in_vain.load(Ordering::SeqCst), 1);

@@ -1,5 +1,5 @@
 -- A refusal of the source, the gate or the destination comes before anything is touched.
-use Rattle.std.proofs.Common.{◌≡◌, ◌∙◌, ◌<◌, true, false, ℕ, List, [], ◌∷◌, None, Result, Ok, Err, length, inl, inr, refl, sym, subst, arith}
+use Rattle.std.proofs.Common.{◌≡◌, ◌∙◌, ◌<◌, Bool, true, false, ℕ, List, [], ◌∷◌, Option, None, Result, Ok, Err, length, inl, inr, refl, sym, subst, arith}
 use Rattle.std.specs.Bool.{⊤}
 use Rattle.skopeo_outside.specs.LaneTold.{LaneTold}
 use Rattle.skopeo_outside.specs.LaneLaws.{each_then}
@@ -7,18 +7,23 @@ use Rattle.skopeo_outside.specs.Seen.{Seen, OnFirst, OnEach, KeepsFrom}
 use Rattle.skopeo_outside.specs.Steps.{Then, goes, stops, ◌>>=◌, given, Ends, EndsBy}
 use Rattle.skopeo_outside.specs.OnLanes.{LaneStep, SeenStep, on_first}
 use Rattle.image_ref.specs.declared.place.Place.{Place}
+use Rattle.image_ref.specs.declared.place.Place.TheVariants.{Docker, Dir, Oci}
 use Rattle.digest_reader.specs.declared.job.Job.{Job}
 use Rattle.copy_workers.specs.declared.cause.Cause.{Cause}
 use Rattle.copy_workers.specs.declared.cause.Cause.TheVariants as cause
 use Rattle.policy_file.specs.PolicyLists.{PolicyLists}
+use Rattle.registries_conf.specs.Settings.{Settings}
+use Rattle.registries_conf.specs.SourcesOf.{sources_of}
 use Rattle.transports.specs.declared.source.Source.{Source}
+use Rattle.transports.specs.declared.source.Source.TheVariants as source
 use Rattle.transports.specs.declared.dest.Dest.{Dest}
 use Rattle.transports.specs.declared.plan.CopyPlan.{CopyPlan}
 use Rattle.transports.specs.declared.report.Copied.{Copied}
 use Rattle.transports.specs.declared.refusal.Refusal.{Refusal}
 use Rattle.transports.specs.declared.refusal.Refusal.TheVariants as refusal
 use Rattle.transports.specs.Refusals as of
-use Rattle.transports.specs.Places.{source_at, dest_at}
+use Rattle.transports.specs.Places.{dest_at}
+use Rattle.transports.specs.Found.{by_sources, trying, in_folder, at_registries, found_for, found}
 use Rattle.transports.specs.Courses.{lane_course, call_course}
 use Rattle.transports.specs.Given.{ManifestEnds, SignaturesEnd}
 use Rattle.transports.specs.Has.{IsUntouched}
@@ -27,7 +32,7 @@ use Rattle.transports.proofs.HasLemmas.{untouched_then}
 use Rattle.transports.proofs.SameLemmas.{untouched_same}
 use Rattle.admission.specs.Parts.{kind_in, image_in}
 use Rattle.admission.specs.Admission.{Admission, admitted_of}
-use Rattle.admission.specs.Walk.{found, admission}
+use Rattle.admission.specs.Walk.{admission}
 use Rattle.copy_jobs.specs.Secured.{JobsEnd}
 use Rattle.copy_engine.specs.Report.{copied_of}
 use Rattle.copy_engine.specs.Walk.{securing, readying, placing, image_end}
@@ -52,17 +57,20 @@ rests_given w a b r end = subst (IsUntouched a) (sym end.0) (untouched_same a)
 rests_reading : {A : Type 0} (step : LaneStep Refusal A) → Rests (reading step)
 rests_reading step a b r end = end.1
 
-rests_found : (place : Place) → Rests (found place)
-unfolding found
-rests_found place =
-    rests_then (given (source_at place)) (λ from. reading (ManifestEnds from None) >>= (λ fetched. given (Ok (record { from = from; fetched = fetched }))))
-    (rests_given (source_at place))
-    (λ from. rests_then (reading (ManifestEnds from None)) (λ fetched. given (Ok (record { from = from; fetched = fetched }))) (rests_reading (ManifestEnds from None)) (λ fetched. rests_given (Ok (record { from = from; fetched = fetched }))))
+rests_for : (tls : Option Bool) (conf : Settings) (place : Place) → Rests (found_for tls conf place)
+unfolding in_folder at_registries
+rests_for tls conf (Dir path) = rests_then _ _ (rests_reading (ManifestEnds (source.Folder path) None)) (λ fetched. rests_given _)
+rests_for tls conf (Docker r) = rests_then _ _ (rests_given (by_sources (sources_of conf r))) (λ sources. rests_reading (trying tls sources))
+rests_for tls conf (Oci path name) = rests_given _
 
-rests_admission : (plan : CopyPlan) (policy : PolicyLists) → Rests (admission plan policy)
+rests_found : (plan : CopyPlan) (conf : Settings) → Rests (found plan conf)
+unfolding found
+rests_found plan conf = rests_for plan.src_tls conf plan.source
+
+rests_admission : (plan : CopyPlan) (conf : Settings) (policy : PolicyLists) → Rests (admission plan conf policy)
 unfolding admission
-rests_admission plan policy =
-    rests_then _ _ (rests_found plan.source)
+rests_admission plan conf policy =
+    rests_then _ _ (rests_found plan conf)
     (λ it. rests_then _ _ (rests_given (kind_in it.fetched))
     (λ kind. rests_then _ _ (rests_given (image_in kind it.fetched))
     (λ image. rests_then _ _ (rests_reading (SignaturesEnd it.from None))
@@ -103,6 +111,8 @@ ahead_free (refusal.NotAnImageDir p) ahead = refl
 ahead_free (refusal.TooLarge w n) ahead = refl
 ahead_free (refusal.ManifestInvalid m) ahead = refl
 ahead_free (refusal.Rejected s p w) ahead = refl
+ahead_free (refusal.Blocked n) ahead = refl
+ahead_free (refusal.NoSource attempts) ahead = refl
 ahead_free refusal.Memory ahead = let no : false ≡ true = ahead in cc
 
 ahead_memory : (e : Refusal) → is_ahead (Image e) ≡ true → of.is_memory e ≡ false
@@ -114,6 +124,8 @@ ahead_memory (refusal.NotAnImageDir p) ahead = refl
 ahead_memory (refusal.TooLarge w n) ahead = refl
 ahead_memory (refusal.ManifestInvalid m) ahead = refl
 ahead_memory (refusal.Rejected s p w) ahead = refl
+ahead_memory (refusal.Blocked n) ahead = refl
+ahead_memory (refusal.NoSource attempts) ahead = refl
 ahead_memory refusal.Memory ahead = let no : false ≡ true = ahead in cc
 
 cause_late : (number : ℕ) (c : Cause) → is_ahead (Image (of.by_cause number c)) ≡ false
@@ -187,27 +199,27 @@ placing_rests from to image e x y some ahead end =
     refused_then (readying from to image.jobs) (λ d. on_first lane_course (putting to) >>= (λ u. given (Ok (copied_of image)))) (λ s t. 0 < length t.lanes → Untouched s t) e
     (λ s m t v one two some. (let none = put_late to (copied_of image) e m t ahead two in absurd (omega (arith, none, some)))) (λ s t one some. readying_rests from to image.jobs e s t ahead one) x y end some
 
-image_rests : (plan : CopyPlan) (policy : PolicyLists) (to : Dest) (e : Refusal) (x y : Seen) → 0 < length y.lanes → is_ahead (Image e) ≡ true
-    → (on_first lane_course (admission plan policy) >>= (λ it. placing it.from to it.image)) x y (Err e) → Untouched x y
-image_rests plan policy to e x y some ahead end =
-    refused_then (on_first lane_course (admission plan policy)) (λ it. placing it.from to it.image)
+image_rests : (plan : CopyPlan) (conf : Settings) (policy : PolicyLists) (to : Dest) (e : Refusal) (x y : Seen) → 0 < length y.lanes → is_ahead (Image e) ≡ true
+    → (on_first lane_course (admission plan conf policy) >>= (λ it. placing it.from to it.image)) x y (Err e) → Untouched x y
+image_rests plan conf policy to e x y some ahead end =
+    refused_then (on_first lane_course (admission plan conf policy)) (λ it. placing it.from to it.image)
     (λ s t. 0 < length t.lanes → Untouched s t) e
     (λ s m t it one two some. each_then (λ place a b. IsUntouched a b) (λ place a b. IsUntouched a b) (λ place a b. IsUntouched a b) (λ place a b c p q. untouched_then a b c p q) s.lanes m.lanes t.lanes
-    (on_each (admission plan policy) s m (Ok it) (λ a b v. rests_admission plan policy a b (Ok it) (value_of (admission plan policy) a b it v)) one)
+    (on_each (admission plan conf policy) s m (Ok it) (λ a b v. rests_admission plan conf policy a b (Ok it) (value_of (admission plan conf policy) a b it v)) one)
     (placing_rests it.from to it.image e m t some ahead two))
-    (λ s t one some. on_each (admission plan policy) s t (Err e) (λ a b v. rests_admission plan policy a b (Err e) (not_free (admission plan policy) a b e (ahead_free e ahead) v)) one) x y end some
+    (λ s t one some. on_each (admission plan conf policy) s t (Err e) (λ a b v. rests_admission plan conf policy a b (Err e) (not_free (admission plan conf policy) a b e (ahead_free e ahead) v)) one) x y end some
 
-walk_rests : (plan : CopyPlan) (policy : PolicyLists) (e : Refusal) (x y : Seen) → 0 < length y.lanes → is_ahead (Image e) ≡ true → image_end plan policy x y (Err e) → Untouched x y
+walk_rests : (plan : CopyPlan) (conf : Settings) (policy : PolicyLists) (e : Refusal) (x y : Seen) → 0 < length y.lanes → is_ahead (Image e) ≡ true → image_end plan conf policy x y (Err e) → Untouched x y
 unfolding image_end given
-walk_rests plan policy e x y some ahead end =
-    refused_then (given (dest_at plan.dest)) (λ to. on_first lane_course (admission plan policy) >>= (λ it. placing it.from to it.image))
+walk_rests plan conf policy e x y some ahead end =
+    refused_then (given (dest_at plan.dest)) (λ to. on_first lane_course (admission plan conf policy) >>= (λ it. placing it.from to it.image))
     (λ s t. 0 < length t.lanes → Untouched s t) e
-    (λ s m t to one two some. subst (λ v. Untouched v t) (one.0) (image_rests plan policy to e m t some ahead two))
+    (λ s m t to one two some. subst (λ v. Untouched v t) (one.0) (image_rests plan conf policy to e m t some ahead two))
     (λ s t one some. subst (λ v. Untouched s v) (sym one.0) (untouched_each s.lanes)) x y end some
 
 -- such a refusal leaves all as it was
-pub untouched_ahead : (plan : CopyPlan) (policy : PolicyLists) (x y : Seen) (e : Refusal) → 0 < length x.lanes → Ends call_course (image_end plan policy) x y (Err e) → is_ahead (Image e) ≡ true → Untouched x y
+pub untouched_ahead : (plan : CopyPlan) (policy : PolicyLists) (conf : Settings) (x y : Seen) (e : Refusal) → 0 < length x.lanes → Ends call_course (image_end plan conf policy) x y (Err e) → is_ahead (Image e) ≡ true → Untouched x y
 unfolding Ends
-untouched_ahead plan policy x y e some end ahead =
+untouched_ahead plan policy conf x y e some end ahead =
     let count : length y.lanes ≡ length x.lanes = end.later.count in
-    walk_rests plan policy e x y (omega (arith, some, count)) ahead (subst (λ f. EndsBy {A = Copied} f call_course e (image_end plan policy) x y) (ahead_memory e ahead) end.ends)
+    walk_rests plan conf policy e x y (omega (arith, some, count)) ahead (subst (λ f. EndsBy {A = Copied} f call_course e (image_end plan conf policy) x y) (ahead_memory e ahead) end.ends)

@@ -11,7 +11,7 @@ use Rattle.transports.proofs.SameLemmas.{none_same}
 use Rattle.transports.proofs.WorkLemmas.{none_written}
 use Rattle.copy_engine.proofs.SameLemmas.{gives_up_same, untouched_each}
 use Rattle.skopeo_app.specs.declared.refusal.CommandRefusal.{CommandRefusal}
-use Rattle.skopeo_app.specs.declared.refusal.CommandRefusal.TheVariants.{Words, Reference, SamePlace, NotBuilt, PolicyMissing, PolicyInvalid, PolicyTooLarge, Image, Output}
+use Rattle.skopeo_app.specs.declared.refusal.CommandRefusal.TheVariants.{Words, Reference, SamePlace, NotBuilt, PolicyMissing, PolicyInvalid, PolicyTooLarge, ConfMissing, ConfInvalid, ConfTooLarge, Image, Output}
 use Rattle.skopeo_app.specs.declared.run.Done.{Done}
 use Rattle.skopeo_app.specs.declared.task.CopyTask.{CopyTask}
 use Rattle.skopeo_app.specs.declared.task.Task.{Task}
@@ -45,6 +45,9 @@ memory_words (NotBuilt p) memory = let no : false ≡ true = memory in cc
 memory_words (PolicyMissing p) memory = refl
 memory_words (PolicyInvalid p k m) memory = refl
 memory_words PolicyTooLarge memory = refl
+memory_words (ConfMissing p) memory = refl
+memory_words (ConfInvalid p f) memory = refl
+memory_words ConfTooLarge memory = refl
 memory_words (Output n) memory = refl
 
 of_words_said : (words : List (List ℕ)) (cwd : List ℕ) (e : CommandRefusal) → Says {A = Task} command_course (task_of words cwd) (Err e) → is_of_words e ≡ true → task_of words cwd ≡ Err e
@@ -129,11 +132,11 @@ page_told words home cwd text a o p (Err e) says page = record {
 headline_of : (words : List (List ℕ)) (home cwd : List ℕ) (task : CopyTask) (a b : Seen) → task_of words cwd ≡ Ok (Copy task) → TaskHeadline home cwd task a b → Headline words home cwd a b
 headline_of words home cwd task a b is h lane x y at bytes ex ey write =
     let c = h lane x y at bytes ex ey write in
-    record { task = task; policy = c.0; asked = record { asks = asks_copy words cwd task is; counts = c.1 }; copied = c.2 }
+    record { task = task; rules = c.0; asked = record { asks = asks_copy words cwd task is; counts = c.1 }; copied = c.2 }
 
 leaves_of : (words : List (List ℕ)) (home cwd : List ℕ) (task : CopyTask) (a b : Seen) → task_of words cwd ≡ Ok (Copy task) → TaskLeaves home cwd task a b → Leaves words home cwd a b
 leaves_of words home cwd task a b is (inl same) = inl same
-leaves_of words home cwd task a b is (inr touched) = inr (record { task = task; policy = touched.0; asked = record { asks = asks_copy words cwd task is; counts = touched.1 }; touched = touched.2 })
+leaves_of words home cwd task a b is (inr touched) = inr (record { task = task; rules = touched.0; asked = record { asks = asks_copy words cwd task is; counts = touched.1 }; touched = touched.2 })
 
 not_of_words : (words : List (List ℕ)) (cwd : List ℕ) (r : Result Done CommandRefusal) → IfErr r (λ e. is_of_words e ≡ false) → IsOfWords r words cwd
 not_of_words words cwd (Ok done) other = tt

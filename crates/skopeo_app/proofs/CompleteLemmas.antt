@@ -24,6 +24,7 @@ use Rattle.copy_workers.specs.declared.cause.Cause.{Cause}
 use Rattle.copy_workers.specs.declared.cause.BlobMismatch.{BlobMismatch}
 use Rattle.copy_workers.specs.declared.cause.Cause.TheVariants as cause
 use Rattle.policy_file.specs.PolicyLists.{PolicyLists}
+use Rattle.registries_conf.specs.Settings.{Settings}
 use Rattle.transports.specs.declared.source.Source.{Source}
 use Rattle.transports.specs.declared.source.Source.TheVariants as source
 use Rattle.transports.specs.declared.dest.Dest.{Dest}
@@ -33,7 +34,7 @@ use Rattle.transports.specs.declared.report.Copied.{Copied}
 use Rattle.transports.specs.declared.refusal.Refusal.{Refusal}
 use Rattle.transports.specs.declared.refusal.Refusal.TheVariants as image
 use Rattle.transports.specs.Refusals as of
-use Rattle.transports.specs.Places.{AreApart, source_at, dest_at}
+use Rattle.transports.specs.Places.{AreApart, dest_at}
 use Rattle.transports.specs.Courses.{lane_course}
 use Rattle.transports.specs.Blobs.{looked_at, is_whole, limit_of, mismatch_of}
 use Rattle.transports.specs.Given.{ManifestEnds, SignaturesEnd, BlobEnds, Spares, SameIn, manifest_in, by_folder}
@@ -41,38 +42,48 @@ use Rattle.transports.specs.Has.{MayTake, MayNotTake}
 use Rattle.transports.specs.StepEnds.{reading, taking, putting, FailsBy, FailsFreely}
 use Rattle.transports.specs.Fair.{Works}
 use Rattle.transports.proofs.GivenLemmas.{only_spares}
-use Rattle.transports.proofs.WorkLemmas.{works_only}
-use Rattle.admission.specs.declared.found.Found.{Found}
+use Rattle.transports.proofs.WorkLemmas.{works_later, works_only}
+use Rattle.transports.specs.declared.found.Found.{Found}
 use Rattle.admission.specs.declared.take.Taken.{Taken}
 use Rattle.admission.specs.Parts.{kind_in, image_in}
 use Rattle.admission.specs.Admission.{Admission, admitted_of}
-use Rattle.admission.specs.Walk.{found, admission}
+use Rattle.transports.specs.Found.{in_folder, found_for, found}
+use Rattle.admission.specs.Walk.{admission}
 use Rattle.copy_jobs.specs.Secured.{JobsEnd, IsLeast, SameBlobs, first_fault}
 use Rattle.copy_jobs.proofs.EndLemmas.{TellsBlobs, TellBlobs, ends_at, done_no_fault, least_is_fault}
 use Rattle.copy_engine.specs.Report.{copied_of}
 use Rattle.copy_engine.specs.Walk.{securing, readying, placing, image_end}
 use Rattle.copy_engine.proofs.ReadyLemmas.{all_later}
 use Rattle.skopeo_app.specs.declared.refusal.CommandRefusal.{CommandRefusal}
-use Rattle.skopeo_app.specs.declared.refusal.CommandRefusal.TheVariants.{Words, Reference, SamePlace, NotBuilt, PolicyMissing, PolicyInvalid, PolicyTooLarge, Image, Output}
+use Rattle.skopeo_app.specs.declared.refusal.CommandRefusal.TheVariants.{Words, Reference, SamePlace, NotBuilt, PolicyMissing, PolicyInvalid, PolicyTooLarge, ConfMissing, ConfInvalid, ConfTooLarge, Image, Output}
 use Rattle.skopeo_app.specs.declared.run.Done.{Done}
 use Rattle.skopeo_app.specs.declared.task.CopyTask.{CopyTask}
 use Rattle.skopeo_app.specs.declared.task.PolicyChoice.{PolicyChoice}
 use Rattle.skopeo_app.specs.declared.task.PolicyChoice.TheVariants.{Anything, Named, Usual}
+use Rattle.skopeo_app.specs.declared.rules.Rules.{Rules}
+use Rattle.skopeo_app.specs.declared.task.ConfChoice.{ConfChoice}
+use Rattle.skopeo_app.specs.declared.task.ConfChoice.TheVariants as chosen
 use Rattle.skopeo_app.specs.declared.task.Task.{Task}
 use Rattle.skopeo_app.specs.declared.task.Task.TheVariants.{Copy}
 use Rattle.skopeo_app.specs.Sinks.{SinkTold}
 use Rattle.skopeo_app.specs.Refusals.{is_memory, is_free, Shows, IsOfOutput, BlamesOutput}
 use Rattle.skopeo_app.specs.Courses as app
 use Rattle.skopeo_app.specs.Courses.{CommandTold, seen_course, command_course}
-use Rattle.skopeo_app.specs.Policy.{policy_end, policy_file, usual_path}
-use Rattle.skopeo_app.specs.Task.{task_of}
+use Rattle.skopeo_app.specs.Usual.{usual_path}
+use Rattle.skopeo_app.specs.Policy.{policy_name, policy_end, policy_file}
+use Rattle.skopeo_app.specs.Conf.{no_conf, conf_end}
+use Rattle.skopeo_app.specs.Rules.{rules_end}
+use Rattle.skopeo_app.specs.Task.{conf_choice_of, task_of}
 use Rattle.skopeo_app.specs.Headline.{first_tree}
+use Rattle.skopeo_app.specs.Rows.{image_row, row_of}
 use Rattle.skopeo_app.specs.Lines.{status_of}
 use Rattle.skopeo_app.specs.Ending.{copy_done, of_image, image_of_task, on_lanes, printing, copy_end, task_end, ending}
 use Rattle.skopeo_app.specs.Answer.{CommandEnds}
 use Rattle.skopeo_app.specs.ByTree.{and_then, policy_at, manifest_of, signatures_of, admitted_in, placed_in, copy_in, or_image, answer_in}
 use Rattle.skopeo_app.specs.Complete.{StartsWith, AllStart, IsFolderCopy, Judges, IsCalm, AreCalm, EndsByTree, IsGood, GoodEnds}
 use Rattle.skopeo_app.proofs.ByTreeLemmas.{wants, Comes, value_is, comes_as, flat, refused_as, Tells, told, Equals, equal_then, given_as, Goes, goes_then, goes_given, goes_first, Calm, comes_then, comes_given, given_same, some_lane, first_tells, first_comes, first_still}
+use Rattle.skopeo_app.proofs.AskedLaw.{asks_copy}
+use Rattle.skopeo_app.proofs.RulesLemmas.{rules_of, both}
 
 some_same : {A : Type 0} (t u : A) → Some t ≡ Some u → t ≡ u
 some_same t u e = cc
@@ -96,19 +107,17 @@ signatures_equal tree folder a b r end tells = (told tree (λ t. r ≡ signature
 ok_same : {A E : Type 0} (x y : A) → ◌≡◌ {A = Result A E} (Ok x) (Ok y) → x ≡ y
 ok_same x y e = cc
 
-found_equals : (tree : Tree) (folder : List ℕ) (place : Place) → place ≡ Dir folder → Equals tree (found place) (and_then (manifest_of tree folder) (λ fetched. Ok (found_of (source.Folder folder) fetched)))
+folder_equals : (tree : Tree) (folder : List ℕ) → Equals tree (in_folder folder) (and_then (manifest_of tree folder) (λ fetched. Ok (found_of (source.Folder folder) fetched)))
+unfolding in_folder
+folder_equals tree folder =
+    equal_then tree (reading (ManifestEnds (source.Folder folder) None)) (λ fetched. given (Ok (found_of (source.Folder folder) fetched)))
+    (manifest_of tree folder) (λ u. and_then u (λ fetched. Ok (found_of (source.Folder folder) fetched))) (λ e. refl) (manifest_equals tree folder)
+    (λ fetched e. given_as tree (Ok (found_of (source.Folder folder) fetched)) (Ok (found_of (source.Folder folder) fetched)) refl)
+
+found_equals : (tree : Tree) (folder : List ℕ) (plan : CopyPlan) (conf : Settings) → plan.source ≡ Dir folder → Equals tree (found plan conf) (and_then (manifest_of tree folder) (λ fetched. Ok (found_of (source.Folder folder) fetched)))
 unfolding found
-found_equals tree folder place is =
-    equal_then tree (given (source_at place)) (λ from. reading (ManifestEnds from None) >>= (λ fetched. given (Ok (found_of from fetched))))
-    (Ok (source.Folder folder)) (λ u. and_then u (λ from. and_then (manifest_of tree folder) (λ fetched. Ok (found_of from fetched)))) (λ e. refl)
-    (given_as tree (source_at place) (Ok (source.Folder folder)) (ap source_at is))
-    (λ from e. subst (λ s. Equals {E = Refusal} tree (reading (ManifestEnds s None) >>= (λ fetched. given (Ok (found_of s fetched)))) (and_then (manifest_of tree folder) (λ fetched. Ok (found_of s fetched))))
-    (sym (ok_same {E = Refusal} from (source.Folder folder) e)) rest)
-  where
-    rest : Equals tree (reading (ManifestEnds (source.Folder folder) None) >>= (λ fetched. given (Ok (found_of (source.Folder folder) fetched)))) (and_then (manifest_of tree folder) (λ fetched. Ok (found_of (source.Folder folder) fetched)))
-    rest = equal_then tree (reading (ManifestEnds (source.Folder folder) None)) (λ fetched. given (Ok (found_of (source.Folder folder) fetched)))
-        (manifest_of tree folder) (λ u. and_then u (λ fetched. Ok (found_of (source.Folder folder) fetched))) (λ e. refl) (manifest_equals tree folder)
-        (λ fetched e. given_as tree (Ok (found_of (source.Folder folder) fetched)) (Ok (found_of (source.Folder folder) fetched)) refl)
+found_equals tree folder plan conf is =
+    subst (λ place. Equals tree (found_for plan.src_tls conf place) (and_then (manifest_of tree folder) (λ fetched. Ok (found_of (source.Folder folder) fetched)))) (sym is) (folder_equals tree folder)
 
 -- the source of what was found
 from_found : (folder : List ℕ) (m : Result Fetched Refusal) (it : Found) → Ok it ≡ and_then m (λ fetched. Ok (found_of (source.Folder folder) fetched)) → it.from ≡ source.Folder folder
@@ -128,9 +137,9 @@ judged tree folder policy fetched = and_then (kind_in fetched) (λ kind. imaged 
 abbrev take_it : List ℕ → Result Admission Refusal → Result Taken Refusal
 take_it folder w = and_then w (λ image. Ok (taken_of (source.Folder folder) image))
 
-admission_equals : (tree : Tree) (folder : List ℕ) (plan : CopyPlan) (policy : PolicyLists) → plan.source ≡ Dir folder → Equals tree (admission plan policy) (take_it folder (admitted_in tree folder policy))
+admission_equals : (tree : Tree) (folder : List ℕ) (plan : CopyPlan) (conf : Settings) (policy : PolicyLists) → plan.source ≡ Dir folder → Equals tree (admission plan conf policy) (take_it folder (admitted_in tree folder policy))
 unfolding admission admitted_in
-admission_equals tree folder plan policy is a b r end tells =
+admission_equals tree folder plan conf policy is a b r end tells =
     let got = walk a b r end tells in
     (got.0 ∙ flatten (manifest_of tree folder), got.1)
   where
@@ -160,10 +169,10 @@ admission_equals tree folder plan policy is a b r end tells =
         (read it from)
         (λ signatures s. last it kind image signatures from)))
 
-    walk : Equals tree (admission plan policy) (take_it folder (and_then (and_then (manifest_of tree folder) (λ fetched. Ok (found_of (source.Folder folder) fetched))) (λ (it : Found). judged tree folder policy it.fetched)))
-    walk = equal_then tree (found plan.source) _ (and_then (manifest_of tree folder) (λ fetched. Ok (found_of (source.Folder folder) fetched)))
+    walk : Equals tree (admission plan conf policy) (take_it folder (and_then (and_then (manifest_of tree folder) (λ fetched. Ok (found_of (source.Folder folder) fetched))) (λ (it : Found). judged tree folder policy it.fetched)))
+    walk = equal_then tree (found plan conf) _ (and_then (manifest_of tree folder) (λ fetched. Ok (found_of (source.Folder folder) fetched)))
         (λ u. take_it folder (and_then u (λ (it : Found). judged tree folder policy it.fetched))) (λ e. refl)
-        (found_equals tree folder plan.source is)
+        (found_equals tree folder plan conf is)
         (λ it e. rest it (from_found folder (manifest_of tree folder) it e))
 
 -- the source of what was admitted
@@ -184,6 +193,8 @@ free_comes (image.NotAnImageDir p) w a b calm is shows = let no : false ≡ true
 free_comes (image.TooLarge q n) w a b calm is shows = let no : false ≡ true = is in cc
 free_comes (image.ManifestInvalid m) w a b calm is shows = let no : false ≡ true = is in cc
 free_comes (image.Rejected s p y) w a b calm is shows = let no : false ≡ true = is in cc
+free_comes (image.Blocked n) w a b calm is shows = let no : false ≡ true = is in cc
+free_comes (image.NoSource attempts) w a b calm is shows = let no : false ≡ true = is in cc
 
 lane_comes : {A : Type 0} (step : LaneStep Refusal A) (w : Result A Refusal) (a b : LaneTold) (r : Result A Refusal) → IsCalm a b → Ends lane_course step a b r → ((s : Result A Refusal) → step a b s → s ≡ w) → Comes of.is_memory r w
 unfolding Ends lane_course
@@ -222,10 +233,10 @@ goes_placing : (from : Source) (to : Dest) (it : Admission) → Goes (placing fr
 unfolding placing
 goes_placing from to it = goes_then (readying from to it.jobs) (λ _. on_first lane_course (putting to) >>= (λ _. given (Ok (copied_of it)))) (goes_readying from to it.jobs) (λ v. goes_putting to (copied_of it))
 
-goes_image : (plan : CopyPlan) (policy : PolicyLists) → Goes (image_end plan policy)
+goes_image : (plan : CopyPlan) (conf : Settings) (policy : PolicyLists) → Goes (image_end plan conf policy)
 unfolding image_end
-goes_image plan policy = goes_then (given (dest_at plan.dest)) (λ to. on_first lane_course (admission plan policy) >>= (λ it. placing it.from to it.image)) (goes_given (dest_at plan.dest))
-    (λ to. goes_then (on_first lane_course (admission plan policy)) (λ it. placing it.from to it.image) (goes_on (admission plan policy)) (λ it. goes_placing it.from to it.image))
+goes_image plan conf policy = goes_then (given (dest_at plan.dest)) (λ to. on_first lane_course (admission plan conf policy) >>= (λ it. placing it.from to it.image)) (goes_given (dest_at plan.dest))
+    (λ to. goes_then (on_first lane_course (admission plan conf policy)) (λ it. placing it.from to it.image) (goes_on (admission plan conf policy)) (λ it. goes_placing it.from to it.image))
 
 -- ---- the same in the command's course
 
@@ -247,6 +258,9 @@ app_comes {A} step w a b (Err e) calm end is = by (is_free e) refl end.ends
     of_image_free (PolicyMissing p) free shows = let no : false ≡ true = free in cc
     of_image_free (PolicyInvalid p k m) free shows = let no : false ≡ true = free in cc
     of_image_free PolicyTooLarge free shows = let no : false ≡ true = free in cc
+    of_image_free (ConfMissing p) free shows = let no : false ≡ true = free in cc
+    of_image_free (ConfInvalid p f) free shows = let no : false ≡ true = free in cc
+    of_image_free ConfTooLarge free shows = let no : false ≡ true = free in cc
     of_image_free (Output n) free shows = let no : false ≡ true = free in cc
 
     by : (f : Bool) → is_free e ≡ f → EndsBy {A = A} f app.lane_course e step a b → Comes is_memory (Err e) w
@@ -281,7 +295,7 @@ first_kept step x y r end = end.1
 
 starts_works : (folder target : List ℕ) (tree : Tree) (a b : LaneTold) → folder ≢ target → StartsWith folder tree a → Works (dest.Folder target) a b → StartsWith folder tree b
 unfolding Spares AreApart
-starts_works folder target tree a b apart starts works = by b.files.tree refl (subst (λ v. Told (SameIn folder) v b.files.tree) starts.told (only_spares (source.Folder folder) (dest.Folder target) a b apart (works_only (dest.Folder target) a b works)))
+starts_works folder target tree a b apart starts works = by b.files.tree refl (subst (λ v. Told (SameIn folder) v b.files.tree) starts.told (only_spares (source.Folder folder) (dest.Folder target) a b apart (works_later (dest.Folder target) a b works) (works_only (dest.Folder target) a b works)))
   where
     by : (y : Option Tree) → b.files.tree ≡ y → Told (SameIn folder) (Some starts.files) y → StartsWith folder tree b
     by None e r = absurd r
@@ -431,29 +445,29 @@ module _ (tree : Tree) (folder target : List ℕ) (apart : folder ≢ target) (t
   abbrev copied : PolicyLists → Result Copied Refusal
   copied policy = and_then (admitted_in tree folder policy) (λ it. placed_in tree folder taken it)
 
-  image_comes : (plan : CopyPlan) (policy : PolicyLists) → plan.source ≡ Dir folder → plan.dest ≡ Dir target → (x y : Seen) (r : Result Copied Refusal) → image_end plan policy x y r → Begins folder tree x → Calm x y
+  image_comes : (plan : CopyPlan) (conf : Settings) (policy : PolicyLists) → plan.source ≡ Dir folder → plan.dest ≡ Dir target → (x y : Seen) (r : Result Copied Refusal) → image_end plan conf policy x y r → Begins folder tree x → Calm x y
       → Comes of.is_memory r (copy_in tree folder taken policy)
   unfolding image_end copy_in
-  image_comes plan policy from to x y r end begins calm =
-      comes_then of.is_memory (given (dest_at plan.dest)) (λ d. on_first lane_course (admission plan policy) >>= (λ it. placing it.from d it.image)) (Ok (dest.Folder target)) (λ u. and_then u (λ (d : Dest). copied policy))
+  image_comes plan conf policy from to x y r end begins calm =
+      comes_then of.is_memory (given (dest_at plan.dest)) (λ d. on_first lane_course (admission plan conf policy) >>= (λ it. placing it.from d it.image)) (Ok (dest.Folder target)) (λ u. and_then u (λ (d : Dest). copied policy))
       (Begins folder tree) (Begins folder tree) (λ e. refl) (goes_given (dest_at plan.dest))
-      (λ d. goes_then (on_first lane_course (admission plan policy)) (λ it. placing it.from d it.image) (goes_on (admission plan policy)) (λ it. goes_placing it.from d it.image))
+      (λ d. goes_then (on_first lane_course (admission plan conf policy)) (λ it. placing it.from d it.image) (goes_on (admission plan conf policy)) (λ it. goes_placing it.from d it.image))
       (λ a m s one i c. comes_given of.is_memory (dest_at plan.dest) (Ok (dest.Folder target)) (ap dest_at to) a m s one)
       (λ a m v one i. given_same (dest_at plan.dest) (Begins folder tree) a m (Ok v) one i)
-      (λ m b d s is two i c. rest m b s (subst (λ (v : Dest). (on_first lane_course (admission plan policy) >>= (λ it. placing it.from v it.image)) m b s) (ok_same {E = Refusal} d (dest.Folder target) is) two) i c)
+      (λ m b d s is two i c. rest m b s (subst (λ (v : Dest). (on_first lane_course (admission plan conf policy) >>= (λ it. placing it.from v it.image)) m b s) (ok_same {E = Refusal} d (dest.Folder target) is) two) i c)
       x y r end begins calm
     where
-      equals : Equals tree (admission plan policy) (take_it folder (admitted_in tree folder policy))
-      equals = admission_equals tree folder plan policy from
+      equals : Equals tree (admission plan conf policy) (take_it folder (admitted_in tree folder policy))
+      equals = admission_equals tree folder plan conf policy from
 
-      rest : (m b : Seen) (s : Result Copied Refusal) → (on_first lane_course (admission plan policy) >>= (λ it. placing it.from (dest.Folder target) it.image)) m b s → Begins folder tree m → Calm m b → Comes of.is_memory s (copied policy)
+      rest : (m b : Seen) (s : Result Copied Refusal) → (on_first lane_course (admission plan conf policy) >>= (λ it. placing it.from (dest.Folder target) it.image)) m b s → Begins folder tree m → Calm m b → Comes of.is_memory s (copied policy)
       rest m b s end i c =
           comes_as of.is_memory s (and_then (take_it folder (admitted_in tree folder policy)) (λ (it : Taken). placed_in tree folder taken it.image)) (copied policy)
-          (comes_then of.is_memory (on_first lane_course (admission plan policy)) (λ it. placing it.from (dest.Folder target) it.image) (take_it folder (admitted_in tree folder policy)) (λ u. and_then u (λ (it : Taken). placed_in tree folder taken it.image))
-          (Begins folder tree) (Begins folder tree) (λ e. refl) (goes_on (admission plan policy)) (λ it. goes_placing it.from (dest.Folder target) it.image)
-          (λ k l v one i c. first_comes of.is_memory lane_course (admission plan policy) (take_it folder (admitted_in tree folder policy)) (lane_comes (admission plan policy) (take_it folder (admitted_in tree folder policy))) k l v (some_lane tree k.lanes i.first) c one
+          (comes_then of.is_memory (on_first lane_course (admission plan conf policy)) (λ it. placing it.from (dest.Folder target) it.image) (take_it folder (admitted_in tree folder policy)) (λ u. and_then u (λ (it : Taken). placed_in tree folder taken it.image))
+          (Begins folder tree) (Begins folder tree) (λ e. refl) (goes_on (admission plan conf policy)) (λ it. goes_placing it.from (dest.Folder target) it.image)
+          (λ k l v one i c. first_comes of.is_memory lane_course (admission plan conf policy) (take_it folder (admitted_in tree folder policy)) (lane_comes (admission plan conf policy) (take_it folder (admitted_in tree folder policy))) k l v (some_lane tree k.lanes i.first) c one
           (λ a z w at t. (equals a z w t (first_tells tree k.lanes a i.first at)).0))
-          (λ k l v one i. begins_still folder tree k l i (first_kept (admission plan policy) k l (Ok v) one) (first_still of.is_memory lane_course (admission plan policy) tree (take_it folder (admitted_in tree folder policy)) equals (lane_value (admission plan policy)) k l v i.first one))
+          (λ k l v one i. begins_still folder tree k l i (first_kept (admission plan conf policy) k l (Ok v) one) (first_still of.is_memory lane_course (admission plan conf policy) tree (take_it folder (admitted_in tree folder policy)) equals (lane_value (admission plan conf policy)) k l v i.first one))
           (λ k l it v is two i c. placing_comes it.image k l v (subst (λ f. placing f (dest.Folder target) it.image k l v) (from_taken folder (admitted_in tree folder policy) it is) two) i c)
           m b s end i c)
           (flat (admitted_in tree folder policy) (λ it. Ok (taken_of (source.Folder folder) it)) (λ (it : Taken). placed_in tree folder taken it.image))
@@ -472,6 +486,9 @@ of_image_is step P x y f g (Err (NotBuilt p)) end = absurd end
 of_image_is step P x y f g (Err (PolicyMissing p)) end = absurd end
 of_image_is step P x y f g (Err (PolicyInvalid p k m)) end = absurd end
 of_image_is step P x y f g (Err PolicyTooLarge) end = absurd end
+of_image_is step P x y f g (Err (ConfMissing p)) end = absurd end
+of_image_is step P x y f g (Err (ConfInvalid p d)) end = absurd end
+of_image_is step P x y f g (Err ConfTooLarge) end = absurd end
 of_image_is step P x y f g (Err (Output n)) end = absurd end
 
 image_value : {A : Type 0} (v : A) (w : Result A Refusal) → Comes of.is_memory (Ok v) w → Comes is_memory (Ok v) (or_image w)
@@ -492,14 +509,27 @@ policy_equals : (tree : Tree) (home cwd : List ℕ) (choice : PolicyChoice) → 
 unfolding policy_end
 policy_equals tree home cwd Anything a b r end tells = (end.0, end.1.files ∙ tells)
 policy_equals tree home cwd (Named path) a b r end tells = (told tree (λ t. r ≡ policy_file t path) a.files.tree tells end.0, end.1.files ∙ tells)
-policy_equals tree home cwd Usual a b r end tells = (told tree (λ t. r ≡ policy_file t (usual_path t home cwd)) a.files.tree tells end.0, end.1.files ∙ tells)
+policy_equals tree home cwd Usual a b r end tells = (told tree (λ t. r ≡ policy_file t (usual_path t home cwd policy_name)) a.files.tree tells end.0, end.1.files ∙ tells)
+
+-- where no registry is named, no configuration is read
+unread_equals : (tree : Tree) (home cwd : List ℕ) (choice : ConfChoice) → choice ≡ chosen.Unread → Equals tree (conf_end home cwd choice) (Ok no_conf)
+unfolding conf_end
+unread_equals tree home cwd choice is = subst (λ v. Equals tree (conf_end home cwd v) (Ok no_conf)) (sym is) (λ a b r end tells. (end.0, end.1.files ∙ tells))
+
+rules_equal : (tree : Tree) (home cwd : List ℕ) (task : CopyTask) → task.conf ≡ chosen.Unread → Equals tree (rules_end home cwd task) (and_then (policy_at tree home cwd task.policy) (λ policy. Ok (rules_of policy no_conf)))
+unfolding rules_end
+rules_equal tree home cwd task unread =
+    equal_then tree (policy_end home cwd task.policy) (λ policy. conf_end home cwd task.conf >>= (λ c. both policy c)) (policy_at tree home cwd task.policy) (λ u. and_then u (λ policy. Ok (rules_of policy no_conf))) (λ e. refl)
+    (policy_equals tree home cwd task.policy)
+    (λ policy e. equal_then tree (conf_end home cwd task.conf) (λ c. both policy c) (Ok no_conf) (λ u. and_then u (λ c. Ok (rules_of policy c))) (λ e. refl) (unread_equals tree home cwd task.conf unread)
+    (λ c e. given_as tree (Ok (rules_of policy c)) (Ok (rules_of policy c)) refl))
 
 app_kept : {A : Type 0} (step : LaneStep CommandRefusal A) (x y : Seen) (r : Result A CommandRefusal) → on_first app.lane_course step x y r → KeepsFrom 1 x.lanes y.lanes
 unfolding on_first
 app_kept step x y r end = end.1
 
-goes_policy : {A : Type 0} (step : LaneStep CommandRefusal A) → Goes (on_first app.lane_course step)
-goes_policy step = goes_first app.lane_course step (app_later step)
+goes_rules : {A : Type 0} (step : LaneStep CommandRefusal A) → Goes (on_first app.lane_course step)
+goes_rules step = goes_first app.lane_course step (app_later step)
 
 seen_comes : {A : Type 0} (step : SeenStep CommandRefusal A) (w : Result A CommandRefusal) (x y : Seen) (r : Result A CommandRefusal) → Ends seen_course step x y r → (step x y r → Comes is_memory r w) → Comes is_memory r w
 unfolding Ends
@@ -510,20 +540,29 @@ seen_comes {A} step w x y (Err e) end f = by (is_memory e) refl end.ends
     by true is shown = inl is
     by false is one = f one
 
-module _ (tree : Tree) (home cwd : List ℕ) (task : CopyTask) (folder target : List ℕ) (apart : folder ≢ target) (from : task.plan.source ≡ Dir folder) (to : task.plan.dest ≡ Dir target) (taken : Result ⊤ Refusal) (judges : Judges tree target taken) where
+module _ (tree : Tree) (home cwd : List ℕ) (task : CopyTask) (folder target : List ℕ) (apart : folder ≢ target) (from : task.plan.source ≡ Dir folder) (to : task.plan.dest ≡ Dir target) (unread : task.conf ≡ chosen.Unread) (taken : Result ⊤ Refusal) (judges : Judges tree target taken) where
   abbrev by_policy : Result Copied CommandRefusal
   by_policy = and_then (policy_at tree home cwd task.policy) (λ policy. or_image (copy_in tree folder taken policy))
 
-  task_comes : (x y : Seen) (r : Result Copied CommandRefusal) → image_of_task home cwd task x y r → Begins folder tree x → Calm x y → Comes is_memory r by_policy
+  abbrev rules_at : Result Rules CommandRefusal
+  rules_at = and_then (policy_at tree home cwd task.policy) (λ policy. Ok (rules_of policy no_conf))
+
+  abbrev by_rules : Result Copied CommandRefusal
+  by_rules = and_then rules_at (λ (rules : Rules). or_image (copy_in tree folder taken rules.policy))
+
+  rules_come : (x y : Seen) (r : Result Copied CommandRefusal) → image_of_task home cwd task x y r → Begins folder tree x → Calm x y → Comes is_memory r by_rules
   unfolding image_of_task
-  task_comes x y r end begins calm =
-      comes_then is_memory (on_first app.lane_course (policy_end home cwd task.policy)) (λ policy. of_image (image_end task.plan policy)) (policy_at tree home cwd task.policy) (λ u. and_then u (λ policy. or_image (copy_in tree folder taken policy)))
-      (Begins folder tree) (Begins folder tree) (λ e. refl) (goes_policy (policy_end home cwd task.policy)) (λ policy. goes_of_image (image_end task.plan policy) (goes_image task.plan policy))
-      (λ a m s one i c. first_comes is_memory app.lane_course (policy_end home cwd task.policy) (policy_at tree home cwd task.policy) (app_comes (policy_end home cwd task.policy) (policy_at tree home cwd task.policy)) a m s (some_lane tree a.lanes i.first) c one
-      (λ k l v at t. (policy_equals tree home cwd task.policy k l v t (first_tells tree a.lanes k i.first at)).0))
-      (λ a m v one i. begins_still folder tree a m i (app_kept (policy_end home cwd task.policy) a m (Ok v) one) (first_still is_memory app.lane_course (policy_end home cwd task.policy) tree (policy_at tree home cwd task.policy) (policy_equals tree home cwd task.policy) (app_value (policy_end home cwd task.policy)) a m v i.first one))
-      (λ m b policy s is two i c. of_image_comes (image_end task.plan policy) (copy_in tree folder taken policy) m b (λ v end. image_comes tree folder target apart taken judges task.plan policy from to m b v end i c) s two)
+  rules_come x y r end begins calm =
+      comes_then is_memory (on_first app.lane_course (rules_end home cwd task)) (λ rules. of_image (image_end task.plan rules.conf rules.policy)) rules_at (λ u. and_then u (λ (rules : Rules). or_image (copy_in tree folder taken rules.policy)))
+      (Begins folder tree) (Begins folder tree) (λ e. refl) (goes_rules (rules_end home cwd task)) (λ rules. goes_of_image (image_end task.plan rules.conf rules.policy) (goes_image task.plan rules.conf rules.policy))
+      (λ a m s one i c. first_comes is_memory app.lane_course (rules_end home cwd task) rules_at (app_comes (rules_end home cwd task) rules_at) a m s (some_lane tree a.lanes i.first) c one
+      (λ k l v at t. (rules_equal tree home cwd task unread k l v t (first_tells tree a.lanes k i.first at)).0))
+      (λ a m v one i. begins_still folder tree a m i (app_kept (rules_end home cwd task) a m (Ok v) one) (first_still is_memory app.lane_course (rules_end home cwd task) tree rules_at (rules_equal tree home cwd task unread) (app_value (rules_end home cwd task)) a m v i.first one))
+      (λ m b rules s is two i c. of_image_comes (image_end task.plan rules.conf rules.policy) (copy_in tree folder taken rules.policy) m b (λ v end. image_comes tree folder target apart taken judges task.plan rules.conf rules.policy from to m b v end i c) s two)
       x y r end begins calm
+
+  task_comes : (x y : Seen) (r : Result Copied CommandRefusal) → image_of_task home cwd task x y r → Begins folder tree x → Calm x y → Comes is_memory r by_policy
+  task_comes x y r end begins calm = comes_as is_memory r by_rules by_policy (rules_come x y r end begins calm) (flat (policy_at tree home cwd task.policy) (λ policy. Ok (rules_of policy no_conf)) (λ (rules : Rules). or_image (copy_in tree folder taken rules.policy)))
 
   prints_come : (done : Done) (m t : CommandTold) (r : Result Done CommandRefusal) → (Rose m.out.faults t.out.faults → ⊥) → printing done m t r → Comes is_memory r (Ok done) × (t.seen ≡ m.seen)
   unfolding printing
@@ -540,6 +579,8 @@ module _ (tree : Tree) (home cwd : List ℕ) (task : CopyTask) (folder target : 
       by (Image (image.TooLarge q n)) is blames = absurd is
       by (Image (image.ManifestInvalid k)) is blames = absurd is
       by (Image (image.Rejected s n y)) is blames = absurd is
+      by (Image (image.Blocked n)) is blames = absurd is
+      by (Image (image.NoSource attempts)) is blames = absurd is
       by (Words p k) is blames = absurd is
       by (Reference x f) is blames = absurd is
       by (SamePlace p) is blames = absurd is
@@ -547,6 +588,9 @@ module _ (tree : Tree) (home cwd : List ℕ) (task : CopyTask) (folder target : 
       by (PolicyMissing p) is blames = absurd is
       by (PolicyInvalid p k q) is blames = absurd is
       by PolicyTooLarge is blames = absurd is
+      by (ConfMissing p) is blames = absurd is
+      by (ConfInvalid p f) is blames = absurd is
+      by ConfTooLarge is blames = absurd is
       by (Output n) is blames = absurd (calm blames.1)
 
   lanes_come : (s m : CommandTold) (r : Result Copied CommandRefusal) → on_lanes (image_of_task home cwd task) s m r → Begins folder tree s.seen → Calm s.seen m.seen → Comes is_memory r by_policy × (m.out ≡ s.out)
@@ -585,6 +629,7 @@ module _ (tree : Tree) (home cwd : List ℕ) (task : CopyTask) (folder target : 
 -- ---- and its status
 
 memory_four : (e : CommandRefusal) → is_memory e ≡ true → status_of (Err e) ≡ 4
+unfolding row_of image_row
 memory_four (Image image.Memory) memory = refl
 memory_four (Image (image.Files n)) memory = let no : false ≡ true = memory in cc
 memory_four (Image (image.Wire n)) memory = let no : false ≡ true = memory in cc
@@ -594,6 +639,8 @@ memory_four (Image (image.NotAnImageDir p)) memory = let no : false ≡ true = m
 memory_four (Image (image.TooLarge q n)) memory = let no : false ≡ true = memory in cc
 memory_four (Image (image.ManifestInvalid m)) memory = let no : false ≡ true = memory in cc
 memory_four (Image (image.Rejected s n y)) memory = let no : false ≡ true = memory in cc
+memory_four (Image (image.Blocked n)) memory = let no : false ≡ true = memory in cc
+memory_four (Image (image.NoSource attempts)) memory = let no : false ≡ true = memory in cc
 memory_four (Words p k) memory = let no : false ≡ true = memory in cc
 memory_four (Reference t f) memory = let no : false ≡ true = memory in cc
 memory_four (SamePlace p) memory = let no : false ≡ true = memory in cc
@@ -601,6 +648,9 @@ memory_four (NotBuilt p) memory = let no : false ≡ true = memory in cc
 memory_four (PolicyMissing p) memory = let no : false ≡ true = memory in cc
 memory_four (PolicyInvalid p k m) memory = let no : false ≡ true = memory in cc
 memory_four PolicyTooLarge memory = let no : false ≡ true = memory in cc
+memory_four (ConfMissing p) memory = let no : false ≡ true = memory in cc
+memory_four (ConfInvalid p f) memory = let no : false ≡ true = memory in cc
+memory_four ConfTooLarge memory = let no : false ≡ true = memory in cc
 memory_four (Output n) memory = let no : false ≡ true = memory in cc
 
 status_four : (answer : Result Done CommandRefusal) → wants is_memory answer ≡ true → status_of answer ≡ 4
@@ -617,10 +667,14 @@ end_comes words home cwd before after (Err e) w end f = by (is_memory e) refl en
     by true is shown = inl is
     by false is one = f one
 
+-- a copy of a folder reads no configuration
+unread_copy : (words : List (List ℕ)) (cwd : List ℕ) (task : CopyTask) (folder : List ℕ) → task_of words cwd ≡ Ok (Copy task) → task.plan.source ≡ Dir folder → task.conf ≡ chosen.Unread
+unread_copy words cwd task folder named from = let asks = asks_copy words cwd task named in asks.conf ∙ ap (conf_choice_of cwd asks.common) from
+
 pub ends_by_tree : (words : List (List ℕ)) (home cwd : List ℕ) (task : CopyTask) (folder target : List ℕ) (tree : Tree) → EndsByTree words home cwd task folder target tree
 ends_by_tree words home cwd task folder target tree taken before after err_before err_after code copy judges calm end =
     by (end_comes words home cwd before after end.answer (answer_in tree home cwd task folder taken) end.is.ends
-    (λ one. ending_comes tree home cwd task folder target copy.apart copy.from copy.to taken judges words copy.named before after end.answer one (record { first = copy.first; same = copy.same }) calm))
+    (λ one. ending_comes tree home cwd task folder target copy.apart copy.from copy.to (unread_copy words cwd task folder copy.named copy.from) taken judges words copy.named before after end.answer one (record { first = copy.first; same = copy.same }) calm))
   where
     by : Comes is_memory end.answer (answer_in tree home cwd task folder taken) → (code ≡ 4) ⊎ (end.answer ≡ answer_in tree home cwd task folder taken)
     by (inl memory) = inl (end.status ∙ status_four end.answer memory)

@@ -1,14 +1,17 @@
 -- What holds between two states holds from a state on before which files were read alone.
-use Rattle.std.proofs.Common.{◌≡◌, ◌∙◌, ◌⊎◌, ℕ, List, [], ◌∷◌, Option, None, Result, Ok, IfSome, length, inl, inr, refl, sym, subst, arith}
+use Rattle.std.proofs.Common.{◌≡◌, ◌∙◌, ◌⊎◌, ℕ, List, [], ◌∷◌, Bool, Option, Some, None, Result, Ok, Err, IfSome, length, inl, inr, refl, sym, subst, arith}
 use Rattle.skopeo_outside.specs.Outside.{Told}
 use Rattle.skopeo_outside.specs.LaneTold.{LaneTold}
-use Rattle.skopeo_outside.specs.LaneLaws.{each_then, lane_at}
+use Rattle.skopeo_outside.specs.LaneLaws.{later_then, each_then, lane_at}
 use Rattle.skopeo_outside.specs.Seen.{Seen, OnFirst, OnEach, OnSome}
 use Rattle.skopeo_outside.proofs.PlaceLemmas.{some_earlier}
 use Rattle.skopeo_outside.specs.declared.words.Fetched.{Fetched}
+use Rattle.image_ref.specs.declared.place.Place.{Place}
+use Rattle.image_ref.specs.declared.place.Place.TheVariants.{Docker, Dir, Oci}
 use Rattle.digest_reader.specs.declared.job.Job.{Job}
 use Rattle.copy_workers.specs.declared.cause.Cause.{Cause}
 use Rattle.policy_file.specs.PolicyLists.{PolicyLists}
+use Rattle.registries_conf.specs.Settings.{Settings}
 use Rattle.transports.specs.declared.source.Source.{Source}
 use Rattle.transports.specs.declared.source.Source.TheVariants as source
 use Rattle.transports.specs.declared.dest.Dest.{Dest}
@@ -16,19 +19,23 @@ use Rattle.transports.specs.declared.dest.Dest.TheVariants.{Folder}
 use Rattle.transports.specs.declared.plan.CopyPlan.{CopyPlan}
 use Rattle.transports.specs.declared.report.Copied.{Copied}
 use Rattle.transports.specs.declared.refusal.Refusal.{Refusal}
+use Rattle.transports.specs.declared.found.Found.{Found}
+use Rattle.transports.specs.Within.{Within}
+use Rattle.transports.specs.Tried.{AreTried}
 use Rattle.transports.specs.Given.{ManifestEnds, SignaturesEnd, BlobEnds}
 use Rattle.transports.specs.Has.{HasBlob, IsReported, IsUntouched, OnlyAtDest, MayTake, RemovesInOrder}
 use Rattle.transports.specs.Fair.{IsFairOn}
 use Rattle.transports.specs.Writes.{Spot, AtPath, IsWrite, ShowsWrite, WritesNone, WritesNowhere}
 use Rattle.transports.specs.Named.{IsNamed, AreSigned, IsAlone, AddsOnly, IsOfJobs}
 use Rattle.transports.specs.StepEnds.{IsDone}
+use Rattle.transports.proofs.WithinLemmas.{within_earlier}
 use Rattle.transports.proofs.HasLemmas.{has_earlier, reported_earlier, untouched_then}
 use Rattle.admission.specs.Admission.{Admission}
-use Rattle.copy_engine.specs.Headline.{IsOfPlan, IsCopied, ImageHeadline}
+use Rattle.copy_engine.specs.Headline.{Answered, IsOfPlan, IsCopied, ImageHeadline}
 use Rattle.copy_engine.specs.Stops.{IsTouched, Leaves, IsGivenUp}
 use Rattle.copy_engine.specs.Delivered.{Delivers}
 use Rattle.skopeo_app.specs.Reads.{IsQuiet}
-use Rattle.skopeo_app.proofs.PolicyLemmas.{quiet_later, quiet_untouched}
+use Rattle.skopeo_app.proofs.ReadLemmas.{quiet_later, quiet_untouched}
 
 -- a relation of told trees, from the same tree on
 told_earlier : {A : Type 0} (R : A → A → Type 0) (x y z : Option A) → y ≡ x → Told R y z → Told R x z
@@ -42,14 +49,19 @@ some_told P x y e r = subst (λ v. IfSome v P) e r
 manifest_earlier : (s : Source) (part : Option (List ℕ)) (r : Result Fetched Refusal) (a b c : LaneTold) → IsQuiet a b → ManifestEnds s part b c r → ManifestEnds s part a c r
 unfolding ManifestEnds
 manifest_earlier (source.Folder path) part r a b c q h = some_told _ a.files.tree b.files.tree q.tree h
+manifest_earlier (source.Registry reference) None (Ok fetched) a b c q h = within_earlier _ a b c (quiet_later a b q) h
+manifest_earlier (source.Registry reference) None (Err e) a b c q h = absurd h
+manifest_earlier (source.Registry reference) (Some digest) r a b c q h = absurd h
 
 signatures_earlier : (s : Source) (part : Option (List ℕ)) (r : Result (List (List ℕ)) Refusal) (a b c : LaneTold) → IsQuiet a b → SignaturesEnd s part b c r → SignaturesEnd s part a c r
 unfolding SignaturesEnd
 signatures_earlier (source.Folder path) part r a b c q h = some_told _ a.files.tree b.files.tree q.tree h
+signatures_earlier (source.Registry reference) part r a b c q h = (h.0, later_then a b c (quiet_later a b q) h.1)
 
 blob_earlier : (s : Source) (job : Job) (r : Result (List ℕ) Cause) (a b c : LaneTold) → IsQuiet a b → BlobEnds s job b c r → BlobEnds s job a c r
 unfolding BlobEnds
 blob_earlier (source.Folder path) job r a b c q h = some_told _ a.files.tree b.files.tree q.tree h
+blob_earlier (source.Registry reference) job r a b c q h = within_earlier _ a b c (quiet_later a b q) h
 
 only_earlier : (to : Dest) (a b c : LaneTold) → IsQuiet a b → OnlyAtDest to b c → OnlyAtDest to a c
 unfolding OnlyAtDest
@@ -116,21 +128,44 @@ first_earlier R step (a ∷ x) [] z quiet r = let e : 0 ≡ length (a ∷ x) = q
 first_earlier R step (a ∷ x) (b ∷ y) [] quiet r = absurd r
 first_earlier R step (a ∷ x) (b ∷ y) (c ∷ z) quiet r = step a b c (quiet.each 0 a b refl refl) r
 
+-- ---- the source that answered
+
+answered_earlier : (tls : Option Bool) (conf : Settings) (place : Place) (x y z : Seen) (found : Found) → AreQuiet x.lanes y.lanes → Answered tls conf place y z found → Answered tls conf place x z found
+answered_earlier tls conf (Dir path) x y z found quiet answered = answered
+answered_earlier tls conf (Docker r) x y z found quiet answered = record {
+  sources = answered.sources;
+  has = answered.has;
+  tried = first_earlier (Within (λ a b. AreTried tls answered.sources a b (Ok found))) (λ a b c q w. within_earlier (λ a b. AreTried tls answered.sources a b (Ok found)) a b c (quiet_later a b q) w) x.lanes y.lanes z.lanes quiet answered.tried;
+}
+answered_earlier tls conf (Oci path name) x y z found quiet answered = absurd answered
+
 -- ---- an image's copy
 
-module _ (policy : PolicyLists) (plan : CopyPlan) (x y z : Seen) (quiet : AreQuiet x.lanes y.lanes) where
-  of_plan_earlier : (from : Source) (image : Admission) → IsOfPlan policy plan y z from image → IsOfPlan policy plan x z from image
+module _ (x y z : Seen) (quiet : AreQuiet x.lanes y.lanes) where
+  pub untouched_earlier : OnEach (λ lane a b. IsUntouched a b) y.lanes z.lanes → OnEach (λ lane a b. IsUntouched a b) x.lanes z.lanes
+  untouched_earlier same = each_earlier x.lanes y.lanes z.lanes quiet (λ lane a b. IsUntouched a b) (λ lane a b c q u. untouched_then a b c (quiet_untouched a b q) u) same
+
+module _ (plan : CopyPlan) (x y z : Seen) (quiet : AreQuiet x.lanes y.lanes) where
+  pub given_up_earlier : IsGivenUp plan y z → IsGivenUp plan x z
+  unfolding IsGivenUp WritesNowhere
+  given_up_earlier g = record {
+    none = each_earlier x.lanes y.lanes z.lanes quiet (λ place a b. WritesNone a b) (λ place a b c q none. none_earlier a b c q none) g.none;
+    order = λ to goes. first_earlier (RemovesInOrder to) (order_earlier to) x.lanes y.lanes z.lanes quiet (g.order to goes);
+  }
+
+module _ (policy : PolicyLists) (conf : Settings) (plan : CopyPlan) (x y z : Seen) (quiet : AreQuiet x.lanes y.lanes) where
+  of_plan_earlier : (from : Source) (image : Admission) → IsOfPlan policy conf plan y z from image → IsOfPlan policy conf plan x z from image
   of_plan_earlier from image of = record {
     under = of.under;
     as_named = of.as_named;
-    answered = of.answered;
+    answered = answered_earlier plan.src_tls conf plan.source x y z (record { from = from; fetched = of.fetched }) quiet of.answered;
     fetched = of.fetched;
     gave = first_earlier (λ a b. ManifestEnds from None a b (Ok of.fetched)) (manifest_earlier from None (Ok of.fetched)) x.lanes y.lanes z.lanes quiet of.gave;
     same = of.same;
     admitted = of.admitted;
   }
 
-  copied_earlier : (at : Spot) (bytes : List ℕ) → IsCopied policy plan y z at bytes → IsCopied policy plan x z at bytes
+  copied_earlier : (at : Spot) (bytes : List ℕ) → IsCopied policy conf plan y z at bytes → IsCopied policy conf plan x z at bytes
   copied_earlier at bytes c = record {
     from = c.from;
     image = c.image;
@@ -143,12 +178,12 @@ module _ (policy : PolicyLists) (plan : CopyPlan) (x y z : Seen) (quiet : AreQui
     secured = λ k job e. some_before x.lanes y.lanes z.lanes quiet (λ place a b. HasBlob c.to job a b) (λ place a b d q h. has_earlier c.to job a b d (quiet_later a b q) h) (c.secured k job e);
   }
 
-  pub headline_earlier : ImageHeadline policy plan y z → ImageHeadline policy plan x z
+  pub headline_earlier : ImageHeadline policy conf plan y z → ImageHeadline policy conf plan x z
   headline_earlier headline lane a c at bytes ea ec write =
       let m = lane_at x.lanes y.lanes lane a quiet.count ea in
       copied_earlier at bytes (headline lane m.0 c at bytes m.1 ec (write_later at bytes a m.0 c (quiet.each lane a m.0 ea m.1) write))
 
-  touched_earlier : IsTouched policy plan y z → IsTouched policy plan x z
+  touched_earlier : IsTouched policy conf plan y z → IsTouched policy conf plan x z
   touched_earlier t = record {
     from = t.from;
     image = t.image;
@@ -160,21 +195,11 @@ module _ (policy : PolicyLists) (plan : CopyPlan) (x y z : Seen) (quiet : AreQui
     fair = each_earlier x.lanes y.lanes z.lanes quiet (IsFairOn t.to) (λ lane a b c q fair. fair_earlier t.to lane a b c q fair) t.fair;
   }
 
-  pub untouched_earlier : OnEach (λ lane a b. IsUntouched a b) y.lanes z.lanes → OnEach (λ lane a b. IsUntouched a b) x.lanes z.lanes
-  untouched_earlier same = each_earlier x.lanes y.lanes z.lanes quiet (λ lane a b. IsUntouched a b) (λ lane a b c q u. untouched_then a b c (quiet_untouched a b q) u) same
-
-  pub leaves_earlier : Leaves policy plan y z → Leaves policy plan x z
-  leaves_earlier (inl same) = inl (untouched_earlier same)
+  pub leaves_earlier : Leaves policy conf plan y z → Leaves policy conf plan x z
+  leaves_earlier (inl same) = inl (untouched_earlier x y z quiet same)
   leaves_earlier (inr touched) = inr (touched_earlier touched)
 
-  pub given_up_earlier : IsGivenUp plan y z → IsGivenUp plan x z
-  unfolding IsGivenUp WritesNowhere
-  given_up_earlier g = record {
-    none = each_earlier x.lanes y.lanes z.lanes quiet (λ place a b. WritesNone a b) (λ place a b c q none. none_earlier a b c q none) g.none;
-    order = λ to goes. first_earlier (RemovesInOrder to) (order_earlier to) x.lanes y.lanes z.lanes quiet (g.order to goes);
-  }
-
-  pub delivers_earlier : (copied : Copied) → Delivers policy plan copied y z → Delivers policy plan copied x z
+  pub delivers_earlier : (copied : Copied) → Delivers policy conf plan copied y z → Delivers policy conf plan copied x z
   delivers_earlier copied d = record {
     from = d.from;
     image = d.image;

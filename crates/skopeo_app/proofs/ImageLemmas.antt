@@ -1,4 +1,4 @@
--- From the copy of one image to the copy of a task, under the policy that counts.
+-- From the copy of one image to the copy of a task, under the policy and the configuration that count.
 use Rattle.std.proofs.Common.{◌≡◌, ◌<◌, ◌≤◌, Bool, true, false, ℕ, List, length, Result, Ok, Err, IfOk, IfErr, inl, inr, refl, arith}
 use Rattle.skopeo_outside.specs.LaneTold.{LaneTold}
 use Rattle.skopeo_outside.specs.Seen.{Seen, OnEach, KeepsFrom}
@@ -6,7 +6,6 @@ use Rattle.skopeo_outside.specs.Steps.{Ends, EndsBy}
 use Rattle.skopeo_outside.specs.OnLanes.{SeenStep, on_first}
 use Rattle.skopeo_outside.proofs.StepLemmas.{then_ends, then_stops}
 use Rattle.skopeo_outside.proofs.PlaceLemmas.{keeps_then}
-use Rattle.policy_file.specs.PolicyLists.{PolicyLists, accepting}
 use Rattle.transports.specs.declared.plan.CopyPlan.{CopyPlan}
 use Rattle.transports.specs.declared.report.Copied.{Copied}
 use Rattle.transports.specs.declared.refusal.Refusal.{Refusal}
@@ -22,16 +21,17 @@ use Rattle.copy_engine.specs.Delivered.{Delivers}
 use Rattle.copy_engine.proofs.SameLemmas.{gives_up_same}
 use Rattle.skopeo_app.specs.declared.refusal.CommandRefusal.{CommandRefusal}
 use Rattle.skopeo_app.specs.declared.refusal.CommandRefusal.TheVariants.{Image}
+use Rattle.skopeo_app.specs.declared.rules.Rules.{Rules}
 use Rattle.skopeo_app.specs.declared.task.CopyTask.{CopyTask}
 use Rattle.skopeo_app.specs.Refusals.{is_ahead}
 use Rattle.skopeo_app.specs.Courses.{lane_course, seen_course}
-use Rattle.skopeo_app.specs.Policy.{policy_end}
-use Rattle.skopeo_app.specs.Headline.{Counts, first_tree}
+use Rattle.skopeo_app.specs.Rules.{rules_end}
+use Rattle.skopeo_app.specs.Headline.{RulesCount, first_tree}
 use Rattle.skopeo_app.specs.Ending.{of_image, image_of_task}
 use Rattle.skopeo_app.specs.Stops.{AreUntouched, HasDelivered}
 use Rattle.skopeo_app.specs.Reads.{ReadsFirst}
 use Rattle.skopeo_app.specs.Copies.{CopiesImage, TaskHeadline, TaskLeaves, CopiesTask}
-use Rattle.skopeo_app.proofs.PolicyLemmas.{quiet_untouched}
+use Rattle.skopeo_app.proofs.ReadLemmas.{quiet_untouched}
 use Rattle.skopeo_app.proofs.EarlierLemmas.{AreQuiet, write_later, headline_earlier, leaves_earlier, untouched_earlier, given_up_earlier, delivers_earlier}
 use Rattle.skopeo_app.proofs.AheadLemmas.{untouched_ahead}
 
@@ -49,10 +49,10 @@ refusal_ends {A} step a b e end = record { later = end.later; ends = by (of.is_m
     by true end = tt
     by false end = end
 
-pub image_copied : (policy : PolicyLists) (plan : CopyPlan) (a b : Seen) (copied : Copied) → Ends call_course (image_end plan policy) a b (Ok copied) → ImageHeadline policy plan a b → engine.Leaves policy plan a b
-    → Delivers policy plan copied a b → KeepsFrom plan.lanes a.lanes b.lanes → CopiesImage policy plan a b (Ok copied)
-image_copied policy plan a b copied ends headline leaves delivers rest = record {
-  ends = value_ends (image_end plan policy) a b copied ends;
+pub image_copied : (rules : Rules) (plan : CopyPlan) (a b : Seen) (copied : Copied) → Ends call_course (image_end plan rules.conf rules.policy) a b (Ok copied) → ImageHeadline rules.policy rules.conf plan a b
+    → engine.Leaves rules.policy rules.conf plan a b → Delivers rules.policy rules.conf plan copied a b → KeepsFrom plan.lanes a.lanes b.lanes → CopiesImage rules plan a b (Ok copied)
+image_copied rules plan a b copied ends headline leaves delivers rest = record {
+  ends = value_ends (image_end plan rules.conf rules.policy) a b copied ends;
   headline = headline;
   leaves = leaves;
   gives_up = tt;
@@ -62,16 +62,16 @@ image_copied policy plan a b copied ends headline leaves delivers rest = record 
   other = tt;
 }
 
-pub image_refused : (policy : PolicyLists) (plan : CopyPlan) (a b : Seen) (e : Refusal) → 0 < length a.lanes → Ends call_course (image_end plan policy) a b (Err e) → ImageHeadline policy plan a b → engine.Leaves policy plan a b
-    → engine.IsGivenUp plan a b → KeepsFrom plan.lanes a.lanes b.lanes → CopiesImage policy plan a b (Err (Image e))
-image_refused policy plan a b e some ends headline leaves given_up rest = record {
-  ends = refusal_ends (image_end plan policy) a b e ends;
+pub image_refused : (rules : Rules) (plan : CopyPlan) (a b : Seen) (e : Refusal) → 0 < length a.lanes → Ends call_course (image_end plan rules.conf rules.policy) a b (Err e) → ImageHeadline rules.policy rules.conf plan a b
+    → engine.Leaves rules.policy rules.conf plan a b → engine.IsGivenUp plan a b → KeepsFrom plan.lanes a.lanes b.lanes → CopiesImage rules plan a b (Err (Image e))
+image_refused rules plan a b e some ends headline leaves given_up rest = record {
+  ends = refusal_ends (image_end plan rules.conf rules.policy) a b e ends;
   headline = headline;
   leaves = leaves;
   gives_up = given_up;
   delivered = tt;
   rest = rest;
-  untouched = λ ahead. untouched_ahead plan policy a b e some ends ahead;
+  untouched = λ ahead. untouched_ahead plan rules.policy rules.conf a b e some ends ahead;
   other = refl;
 }
 
@@ -86,55 +86,55 @@ quiet_lanes x y quiet = record { count = quiet.count; each = λ place a b ea eb.
 none_read : (home cwd : List ℕ) (task : CopyTask) (x y : Seen) → AreQuiet x.lanes y.lanes → TaskHeadline home cwd task x y
 none_read home cwd task x y quiet lane a b at bytes ea eb write = absurd (none_written b b at bytes (none_same b) (write_later at bytes a b b (quiet.each lane a b ea eb) write))
 
--- the policy was refused
-pub policy_refused : (home cwd : List ℕ) (task : CopyTask) (a b : Seen) (e : CommandRefusal) → 0 < task.plan.lanes → ReadsFirst home cwd task.policy a b (Err e) → CopiesTask home cwd task a b (Err e)
+-- the policy or the configuration was refused
+pub rules_refused : (home cwd : List ℕ) (task : CopyTask) (a b : Seen) (e : CommandRefusal) → 0 < task.plan.lanes → ReadsFirst home cwd task a b (Err e) → CopiesTask home cwd task a b (Err e)
 unfolding image_of_task
-policy_refused home cwd task a b e some reads = record {
+rules_refused home cwd task a b e some reads = record {
   run = record {
     headline = none_read home cwd task a b reads.quiet;
     leaves = inl (quiet_lanes a.lanes b.lanes reads.quiet);
     rest = wider 1 task.plan.lanes a.lanes b.lanes (omega (arith, some)) reads.rest;
   };
-  ends = then_stops seen_course (on_first lane_course (policy_end home cwd task.policy)) (λ policy. of_image (image_end task.plan policy)) a b e reads.ends;
-  gives_up = given_up_earlier accepting task.plan a b b reads.quiet (gives_up_same task.plan b);
+  ends = then_stops seen_course (on_first lane_course (rules_end home cwd task)) (λ rules. of_image (image_end task.plan rules.conf rules.policy)) a b e reads.ends;
+  gives_up = given_up_earlier task.plan a b b reads.quiet (gives_up_same task.plan b);
   delivered = tt;
   untouched = λ ahead. quiet_lanes a.lanes b.lanes reads.quiet;
   other = reads.other;
 }
 
-module _ (home cwd : List ℕ) (task : CopyTask) (policy : PolicyLists) (a m b : Seen) (counts : Counts (first_tree a.lanes) home cwd task.policy policy) (quiet : AreQuiet a.lanes m.lanes) where
-  leaves_of : engine.Leaves policy task.plan a b → TaskLeaves home cwd task a b
+module _ (home cwd : List ℕ) (task : CopyTask) (rules : Rules) (a m b : Seen) (counts : RulesCount (first_tree a.lanes) home cwd task rules) (quiet : AreQuiet a.lanes m.lanes) where
+  leaves_of : engine.Leaves rules.policy rules.conf task.plan a b → TaskLeaves home cwd task a b
   leaves_of (inl same) = inl same
-  leaves_of (inr touched) = inr (policy, counts, touched)
+  leaves_of (inr touched) = inr (rules, counts, touched)
 
-  headline_of : ImageHeadline policy task.plan a b → TaskHeadline home cwd task a b
-  headline_of h lane x y at bytes ex ey write = (policy, counts, h lane x y at bytes ex ey write)
+  headline_of : ImageHeadline rules.policy rules.conf task.plan a b → TaskHeadline home cwd task a b
+  headline_of h lane x y at bytes ex ey write = (rules, counts, h lane x y at bytes ex ey write)
 
   gives_up_of : (r : Result Copied CommandRefusal) → engine.GivesUp r task.plan m b → engine.GivesUp r task.plan a b
   gives_up_of (Ok copied) g = tt
-  gives_up_of (Err e) g = given_up_earlier policy task.plan a m b quiet g
+  gives_up_of (Err e) g = given_up_earlier task.plan a m b quiet g
 
-  delivered_of : (r : Result Copied CommandRefusal) → IfOk r (λ copied. Delivers policy task.plan copied m b) → IfOk r (HasDelivered home cwd task a b)
-  delivered_of (Ok copied) d = record { policy = policy; counts = counts; delivers = delivers_earlier policy task.plan a m b quiet copied d }
+  delivered_of : (r : Result Copied CommandRefusal) → IfOk r (λ copied. Delivers rules.policy rules.conf task.plan copied m b) → IfOk r (HasDelivered home cwd task a b)
+  delivered_of (Ok copied) d = record { rules = rules; counts = counts; delivers = delivers_earlier rules.policy rules.conf task.plan a m b quiet copied d }
   delivered_of (Err e) d = tt
 
   untouched_of : (r : Result Copied CommandRefusal) → IfErr r (λ e. is_ahead e ≡ true → AreUntouched m b) → IfErr r (λ e. is_ahead e ≡ true → AreUntouched a b)
   untouched_of (Ok copied) u = tt
-  untouched_of (Err e) u = λ ahead. untouched_earlier policy task.plan a m b quiet (u ahead)
+  untouched_of (Err e) u = λ ahead. untouched_earlier a m b quiet (u ahead)
 
 -- the image was copied behind it, or refused
-pub copied_behind : (home cwd : List ℕ) (task : CopyTask) (policy : PolicyLists) (a m b : Seen) (r : Result Copied CommandRefusal) → 0 < task.plan.lanes → ReadsFirst home cwd task.policy a m (Ok policy)
-    → CopiesImage policy task.plan m b r → CopiesTask home cwd task a b r
+pub copied_behind : (home cwd : List ℕ) (task : CopyTask) (rules : Rules) (a m b : Seen) (r : Result Copied CommandRefusal) → 0 < task.plan.lanes → ReadsFirst home cwd task a m (Ok rules)
+    → CopiesImage rules task.plan m b r → CopiesTask home cwd task a b r
 unfolding image_of_task
-copied_behind home cwd task policy a m b r some reads copies = record {
+copied_behind home cwd task rules a m b r some reads copies = record {
   run = record {
-    headline = headline_of home cwd task policy a m b reads.counts reads.quiet (headline_earlier policy task.plan a m b reads.quiet copies.headline);
-    leaves = leaves_of home cwd task policy a m b reads.counts reads.quiet (leaves_earlier policy task.plan a m b reads.quiet copies.leaves);
+    headline = headline_of home cwd task rules a m b reads.counts reads.quiet (headline_earlier rules.policy rules.conf task.plan a m b reads.quiet copies.headline);
+    leaves = leaves_of home cwd task rules a m b reads.counts reads.quiet (leaves_earlier rules.policy rules.conf task.plan a m b reads.quiet copies.leaves);
     rest = keeps_then task.plan.lanes a.lanes m.lanes b.lanes (wider 1 task.plan.lanes a.lanes m.lanes (omega (arith, some)) reads.rest) copies.rest;
   };
-  ends = then_ends seen_course (on_first lane_course (policy_end home cwd task.policy)) (λ policy. of_image (image_end task.plan policy)) a m b policy r reads.ends copies.ends;
-  gives_up = gives_up_of home cwd task policy a m b reads.counts reads.quiet r copies.gives_up;
-  delivered = delivered_of home cwd task policy a m b reads.counts reads.quiet r copies.delivered;
-  untouched = untouched_of home cwd task policy a m b reads.counts reads.quiet r copies.untouched;
+  ends = then_ends seen_course (on_first lane_course (rules_end home cwd task)) (λ rules. of_image (image_end task.plan rules.conf rules.policy)) a m b rules r reads.ends copies.ends;
+  gives_up = gives_up_of home cwd task rules a m b reads.counts reads.quiet r copies.gives_up;
+  delivered = delivered_of home cwd task rules a m b reads.counts reads.quiet r copies.delivered;
+  untouched = untouched_of home cwd task rules a m b reads.counts reads.quiet r copies.untouched;
   other = copies.other;
 }

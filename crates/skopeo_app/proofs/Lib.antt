@@ -1,6 +1,11 @@
 pub mod TaskLemmas
 pub mod AskedLaw
+pub mod RowLemmas
+pub mod AttemptLemmas
+pub mod ReadLemmas
 pub mod PolicyLemmas
+pub mod ConfLemmas
+pub mod RulesLemmas
 pub mod CountsLemmas
 pub mod EarlierLemmas
 pub mod AheadLemmas

@@ -7,7 +7,7 @@ use Rattle.skopeo_outside.proofs.StepLemmas.{then_ends, then_stops}
 use Rattle.transports.specs.declared.report.Copied.{Copied}
 use Rattle.transports.specs.declared.refusal.Refusal.TheVariants as image
 use Rattle.skopeo_app.specs.declared.refusal.CommandRefusal.{CommandRefusal}
-use Rattle.skopeo_app.specs.declared.refusal.CommandRefusal.TheVariants.{Words, Reference, SamePlace, NotBuilt, PolicyMissing, PolicyInvalid, PolicyTooLarge, Image, Output}
+use Rattle.skopeo_app.specs.declared.refusal.CommandRefusal.TheVariants.{Words, Reference, SamePlace, NotBuilt, PolicyMissing, PolicyInvalid, PolicyTooLarge, ConfMissing, ConfInvalid, ConfTooLarge, Image, Output}
 use Rattle.skopeo_app.specs.declared.run.Done.{Done}
 use Rattle.skopeo_app.specs.declared.task.CopyTask.{CopyTask}
 use Rattle.skopeo_app.specs.Sinks.{SinkTold}
@@ -27,6 +27,9 @@ of_copy_words (Image e) of = refl
 of_copy_words (PolicyMissing path) of = refl
 of_copy_words (PolicyInvalid path kind member) of = refl
 of_copy_words PolicyTooLarge of = refl
+of_copy_words (ConfMissing path) of = refl
+of_copy_words (ConfInvalid path fault) of = refl
+of_copy_words ConfTooLarge of = refl
 of_copy_words (Words place kind) of = let no : false ≡ true = of in cc
 of_copy_words (Reference text fault) of = let no : false ≡ true = of in cc
 of_copy_words (SamePlace path) of = let no : false ≡ true = of in cc
@@ -38,6 +41,9 @@ of_copy_output (Image e) of = refl
 of_copy_output (PolicyMissing path) of = refl
 of_copy_output (PolicyInvalid path kind member) of = refl
 of_copy_output PolicyTooLarge of = refl
+of_copy_output (ConfMissing path) of = refl
+of_copy_output (ConfInvalid path fault) of = refl
+of_copy_output ConfTooLarge of = refl
 of_copy_output (Words place kind) of = refl
 of_copy_output (Reference text fault) of = refl
 of_copy_output (SamePlace path) of = refl
@@ -60,6 +66,8 @@ output_late (Image (image.NotAnImageDir p)) of = absurd of
 output_late (Image (image.TooLarge q n)) of = absurd of
 output_late (Image (image.ManifestInvalid m)) of = absurd of
 output_late (Image (image.Rejected s n y)) of = absurd of
+output_late (Image (image.Blocked n)) of = absurd of
+output_late (Image (image.NoSource attempts)) of = absurd of
 output_late (Words p k) of = absurd of
 output_late (Reference t f) of = absurd of
 output_late (SamePlace p) of = absurd of
@@ -67,6 +75,9 @@ output_late (NotBuilt p) of = absurd of
 output_late (PolicyMissing p) of = absurd of
 output_late (PolicyInvalid p k m) of = absurd of
 output_late PolicyTooLarge of = absurd of
+output_late (ConfMissing p) of = absurd of
+output_late (ConfInvalid p f) of = absurd of
+output_late ConfTooLarge of = absurd of
 
 pub not_ahead : {A : Type 0} (e : CommandRefusal) → IsLate e → is_ahead e ≡ true → A
 not_ahead e late ahead = let no : false ≡ true = sym late.ahead ∙ ahead in absurd (let x : ⊥ = cc in x)

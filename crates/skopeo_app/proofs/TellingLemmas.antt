@@ -1,6 +1,7 @@
 -- What writing a line leaves.
 use Rattle.std.proofs.Common.{◌≡◌, ◌++◌, ◌⊎◌, List, [], ℕ, Option, Some, None, Result, Ok, Err, OnOk, refl, sym, ap, inl, inr, append-nil, arith}
 use Rattle.std.specs.Prelude.{codes}
+use Rattle.std.specs.Fmt.{digits}
 use Rattle.std.specs.Option.{option_map}
 use Rattle.skopeo_outside.specs.declared.stop.Stop.{Stop}
 use Rattle.skopeo_outside.specs.declared.stop.Stop.TheVariants as stop
@@ -11,7 +12,8 @@ use Rattle.skopeo_app.specs.declared.refusal.CommandRefusal.TheVariants as refus
 use Rattle.skopeo_app.specs.declared.run.Done.{Done}
 use Rattle.skopeo_app.specs.Sinks.{SinkTold, Gained}
 use Rattle.skopeo_app.specs.Runs.{Tells, Finishes}
-use Rattle.skopeo_app.specs.Lines.{image_line, refusal_line}
+use Rattle.skopeo_app.specs.Rows.{image_row, row_of}
+use Rattle.skopeo_app.specs.Lines.{printed, refusal_line}
 
 -- a write that did not fail has added its bytes
 pub gained : (r : Result (Unit {0}) Stop) (bytes : List ℕ) (before after : SinkTold)
@@ -22,7 +24,7 @@ gained (Err stop.Memory) bytes before after added cause wants = λ f. absurd (f 
 
 -- want of memory in place of a refusal
 pub memory_line : refusal_line (refusal.Image image.Memory) ≡ codes "skopeo: 4 OutOfMemory\n"
-unfolding refusal_line image_line
+unfolding refusal_line printed row_of image_row digits
 memory_line = refl
 
 no_more : (o : Option (List ℕ)) → o ≡ option_map (λ x. x ++ []) o

@@ -21,7 +21,8 @@ use Rattle.skopeo_app.specs.declared.run.Done.{Done}
 use Rattle.skopeo_app.specs.declared.task.CopyTask.{CopyTask}
 use Rattle.skopeo_app.specs.declared.task.PolicyChoice.{PolicyChoice}
 use Rattle.skopeo_app.specs.declared.task.PolicyChoice.TheVariants.{Anything, Named, Usual}
-use Rattle.skopeo_app.specs.Policy.{policy_file, usual_path}
+use Rattle.skopeo_app.specs.Usual.{usual_path}
+use Rattle.skopeo_app.specs.Policy.{policy_name, policy_file}
 use Rattle.skopeo_app.specs.Ending.{copy_done}
 
 -- one step after the other: the first refusal counts
@@ -37,7 +38,7 @@ w >>= f = and_then w f
 abbrev pub policy_at : Tree → List ℕ → List ℕ → PolicyChoice → Result PolicyLists CommandRefusal
 policy_at tree home cwd Anything = Ok accepting
 policy_at tree home cwd (Named path) = policy_file tree path
-policy_at tree home cwd Usual = policy_file tree (usual_path tree home cwd)
+policy_at tree home cwd Usual = policy_file tree (usual_path tree home cwd policy_name)
 
 -- the manifest and the signatures of a folder's image
 abbrev pub manifest_of : Tree → List ℕ → Result Fetched Refusal

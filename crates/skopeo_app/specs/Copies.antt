@@ -3,7 +3,6 @@ use Rattle.std.specs.Prelude.{◌≡◌, ◌⊎◌, List, ℕ, true, false, Some
 use Rattle.skopeo_outside.specs.LaneTold.{LaneTold}
 use Rattle.skopeo_outside.specs.Seen.{Seen, KeepsFrom}
 use Rattle.skopeo_outside.specs.Steps.{Ends}
-use Rattle.policy_file.specs.PolicyLists.{PolicyLists}
 use Rattle.transports.specs.declared.plan.CopyPlan.{CopyPlan}
 use Rattle.transports.specs.declared.report.Copied.{Copied}
 use Rattle.transports.specs.Writes.{Spot, IsWrite}
@@ -13,34 +12,35 @@ use Rattle.copy_engine.specs.Delivered.{Delivers}
 use Rattle.copy_engine.specs.Walk.{image_end}
 use Rattle.skopeo_app.specs.declared.refusal.CommandRefusal.{CommandRefusal}
 use Rattle.skopeo_app.specs.declared.run.Done.{Done}
+use Rattle.skopeo_app.specs.declared.rules.Rules.{Rules}
 use Rattle.skopeo_app.specs.declared.task.CopyTask.{CopyTask}
 use Rattle.skopeo_app.specs.Refusals.{is_of_words, is_of_copy, is_ahead}
 use Rattle.skopeo_app.specs.Courses.{seen_course, CommandTold, command_course}
-use Rattle.skopeo_app.specs.Headline.{Counts, first_tree}
+use Rattle.skopeo_app.specs.Headline.{RulesCount, first_tree}
 use Rattle.skopeo_app.specs.Ending.{of_image, image_of_task, copy_end}
 use Rattle.skopeo_app.specs.Stops.{AreUntouched, HasDelivered, CopyStops, IsCopy}
 
 -- what the engine says of a copy, with the command's refusals
-pub record CopiesImage (policy : PolicyLists) (plan : CopyPlan) (old new : Seen) (result : Result Copied CommandRefusal) : Type 0 where
-  pub ends : Ends seen_course (of_image (image_end plan policy)) old new result
-  pub headline : ImageHeadline policy plan old new
-  pub leaves : engine.Leaves policy plan old new
+pub record CopiesImage (rules : Rules) (plan : CopyPlan) (old new : Seen) (result : Result Copied CommandRefusal) : Type 0 where
+  pub ends : Ends seen_course (of_image (image_end plan rules.conf rules.policy)) old new result
+  pub headline : ImageHeadline rules.policy rules.conf plan old new
+  pub leaves : engine.Leaves rules.policy rules.conf plan old new
   pub gives_up : engine.GivesUp result plan old new
-  pub delivered : IfOk result (λ copied. Delivers policy plan copied old new)
+  pub delivered : IfOk result (λ copied. Delivers rules.policy rules.conf plan copied old new)
   pub rest : KeepsFrom plan.lanes old.lanes new.lanes
   pub untouched : IfErr result (λ e. is_ahead e ≡ true → AreUntouched old new)
   pub other : IfErr result (λ e. is_of_copy e ≡ true)
 
--- behind each manifest that was written stands the image of the task, under the policy that counts
+-- behind each manifest that was written stands the image of the task, under the policy and the configuration that count
 abbrev pub TaskHeadline : List ℕ → List ℕ → CopyTask → Seen → Seen → Type 0
 TaskHeadline home cwd task old new = (lane : ℕ) (a b : LaneTold) (at : Spot) (bytes : List ℕ)
     → slice_get old.lanes lane ≡ Some a → slice_get new.lanes lane ≡ Some b → IsWrite a b at bytes
-    → (policy : PolicyLists) × Counts (first_tree old.lanes) home cwd task.policy policy × IsCopied policy task.plan old new at bytes
+    → (rules : Rules) × RulesCount (first_tree old.lanes) home cwd task rules × IsCopied rules.policy rules.conf task.plan old new at bytes
 
--- nothing was touched, or it was by the image of the task, under the policy that counts
+-- nothing was touched, or it was by the image of the task, under the policy and the configuration that count
 abbrev pub TaskLeaves : List ℕ → List ℕ → CopyTask → Seen → Seen → Type 0
 TaskLeaves home cwd task old new =
-    AreUntouched old new ⊎ ((policy : PolicyLists) × Counts (first_tree old.lanes) home cwd task.policy policy × engine.IsTouched policy task.plan old new)
+    AreUntouched old new ⊎ ((rules : Rules) × RulesCount (first_tree old.lanes) home cwd task rules × engine.IsTouched rules.policy rules.conf task.plan old new)
 
 -- what holds of the lanes behind a task's copy
 pub record IsTaskRun (home cwd : List ℕ) (task : CopyTask) (old new : Seen) : Type 0 where

@@ -20,6 +20,9 @@ shows_earlier (refusal.NotBuilt what) a b c later f = tt
 shows_earlier (refusal.PolicyMissing path) a b c later f = tt
 shows_earlier (refusal.PolicyInvalid path kind member) a b c later f = tt
 shows_earlier refusal.PolicyTooLarge a b c later f = tt
+shows_earlier (refusal.ConfMissing path) a b c later f = tt
+shows_earlier (refusal.ConfInvalid path fault) a b c later f = tt
+shows_earlier refusal.ConfTooLarge a b c later f = tt
 shows_earlier (refusal.Output count) a b c later f = tt
 
 -- one lane

@@ -16,7 +16,7 @@ use Rattle.skopeo_app.specs.Sinks.{Gains}
 use Rattle.skopeo_app.specs.Refusals.{BlamesOutput, IsUnprinted}
 use Rattle.skopeo_app.specs.Courses.{lane_course, seen_course, CommandStep}
 use Rattle.skopeo_app.specs.Task.{task_of}
-use Rattle.skopeo_app.specs.Policy.{policy_end}
+use Rattle.skopeo_app.specs.Rules.{rules_end}
 
 -- a text that is printed
 abbrev pub page_done : List ℕ → Done
@@ -32,11 +32,11 @@ of_image step old new (Ok x) = step old new (Ok x)
 of_image step old new (Err (Image e)) = step old new (Err e)
 of_image step old new (Err e) = ⊥
 
--- the policy of a copy is read on the first lane, and then its image is copied
+-- the policy and the configuration of a copy are read on the first lane, and then its image is copied
 unfoldable pub image_of_task : List ℕ → List ℕ → CopyTask → SeenStep CommandRefusal Copied
 image_of_task home cwd task = do
-  policy ← on_first lane_course (policy_end home cwd task.policy)
-  of_image (image_end task.plan policy)
+  rules ← on_first lane_course (rules_end home cwd task)
+  of_image (image_end task.plan rules.conf rules.policy)
 
 -- a step over the lanes; the output rests
 unfoldable pub on_lanes : {A : Type 0} → SeenStep CommandRefusal A → CommandStep A

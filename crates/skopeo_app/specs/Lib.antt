@@ -5,11 +5,15 @@ pub mod Plan
 pub mod Task
 pub mod Asked
 pub mod Numbered
+pub mod Usual
 pub mod Policy
+pub mod Conf
+pub mod Rules
 pub mod Headline
 pub mod Ending
 pub mod Stops
-pub mod JobLines
+pub mod Words
+pub mod Rows
 pub mod Lines
 pub mod Answer
 pub mod Reads

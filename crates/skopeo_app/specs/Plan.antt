@@ -1,5 +1,5 @@
--- The places of a copy, and its lanes.
-use Rattle.std.specs.Prelude.{◌&&◌, ◌<◌, [], List, ℕ, Bool, true, false, if◌then◌else◌, max, Result, Ok, Err}
+-- The places of a copy, its lanes, and whether its registry may be asked without TLS.
+use Rattle.std.specs.Prelude.{◌&&◌, ◌<◌, [], List, ℕ, Bool, true, false, if◌then◌else◌, max, Option, Result, Ok, Err}
 use Rattle.std.specs.Str.{bytes_eq}
 use Rattle.image_ref.specs.PlaceReading.{place_of}
 use Rattle.image_ref.specs.declared.place.Place.{Place}
@@ -37,6 +37,12 @@ folder_in (place.Docker reference) = []
 folder_in (place.Dir path) = path
 folder_in (place.Oci path tag) = []
 
+-- a place in a registry
+abbrev pub is_registry : Place → Bool
+is_registry (place.Docker reference) = true
+is_registry (place.Dir path) = false
+is_registry (place.Oci path tag) = false
+
 -- two places that are one folder
 abbrev pub are_same : CopyPlan → Bool
 are_same plan = (is_folder plan.source && is_folder plan.dest) && bytes_eq (folder_in plan.source) (folder_in plan.dest)
@@ -49,11 +55,11 @@ abbrev pub lanes_for : Common → ℕ
 lanes_for common = max common.lanes 1
 
 -- the places of a copy: the source is read first
-unfoldable pub plan_of : List ℕ → ℕ → List ℕ → List ℕ → Result CopyPlan CommandRefusal
-plan_of cwd lanes source dest = do
+unfoldable pub plan_of : List ℕ → ℕ → Option Bool → List ℕ → List ℕ → Result CopyPlan CommandRefusal
+plan_of cwd lanes src_tls source dest = do
   from ← place_at cwd source
   to ← place_at cwd dest
-  apart (record { source = from; dest = to; lanes = lanes })
+  apart (record { source = from; dest = to; lanes = lanes; src_tls = src_tls })
 
 -- what a copy needs: two places that are not one folder, and a lane
 pub record IsSoundPlan (plan : CopyPlan) : Type 0 where

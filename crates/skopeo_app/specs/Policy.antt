@@ -1,7 +1,5 @@
 -- Which policy file counts, and what it says (skopeo(1), `--policy` and `--insecure-policy`; containers-policy.json(5)).
-use Rattle.std.specs.Prelude.{◌≡◌, ◌++◌, [], ◌∷◌, List, ℕ, if◌then◌else◌, codes, Result, Ok, Err, IfSome}
-use Rattle.std.specs.Option.{is_some}
-use Rattle.image_ref.specs.Path.{cleaned}
+use Rattle.std.specs.Prelude.{◌≡◌, List, ℕ, codes, Result, Ok, Err}
 use Rattle.skopeo_outside.specs.Tree.{Tree, file_at}
 use Rattle.skopeo_outside.specs.OnLanes.{LaneStep}
 use Rattle.layouts.specs.Bounds.{limited}
@@ -17,19 +15,11 @@ use Rattle.skopeo_app.specs.declared.refusal.CommandRefusal.{CommandRefusal}
 use Rattle.skopeo_app.specs.declared.refusal.CommandRefusal.TheVariants.{PolicyMissing, PolicyInvalid, PolicyTooLarge, Image}
 use Rattle.skopeo_app.specs.declared.task.PolicyChoice.{PolicyChoice}
 use Rattle.skopeo_app.specs.declared.task.PolicyChoice.TheVariants.{Anything, Named, Usual}
+use Rattle.skopeo_app.specs.Usual.{usual_path, by_tree}
 
--- the policy file of the system
-abbrev pub system_path : List ℕ
-system_path = codes "/etc/containers/policy.json"
-
--- the policy file of a user
-abbrev pub user_path : List ℕ → List ℕ → List ℕ
-user_path home cwd = cleaned cwd (home ++ codes "/.config/containers/policy.json")
-
--- the user's where it is there, else the system's; no user is at home at the empty path
-abbrev pub usual_path : Tree → List ℕ → List ℕ → List ℕ
-usual_path t [] cwd = system_path
-usual_path t (c ∷ home) cwd = if is_some (file_at t (user_path (c ∷ home) cwd)) then user_path (c ∷ home) cwd else system_path
+-- the name of a policy file
+abbrev pub policy_name : List ℕ
+policy_name = codes "policy.json"
 
 -- a policy, or the first fault of its file
 abbrev pub or_invalid : List ℕ → Result PolicyLists PolicyFault → Result PolicyLists CommandRefusal
@@ -46,15 +36,11 @@ policy_from path (Whole bytes) = or_invalid path (policy_in bytes)
 abbrev pub policy_file : Tree → List ℕ → Result PolicyLists CommandRefusal
 policy_file t path = policy_from path (limited (file_at t path))
 
--- a policy that is read of a lane's files, where these are told
-abbrev pub by_tree : (Tree → Result PolicyLists CommandRefusal) → LaneStep CommandRefusal PolicyLists
-by_tree policy old new r = IfSome old.files.tree (λ t. r ≡ policy t)
-
 -- the policy that counts, by the files of one lane
 abbrev pub policy_by : List ℕ → List ℕ → PolicyChoice → LaneStep CommandRefusal PolicyLists
 policy_by home cwd Anything = λ old new r. r ≡ Ok accepting
 policy_by home cwd (Named path) = by_tree (λ t. policy_file t path)
-policy_by home cwd Usual = by_tree (λ t. policy_file t (usual_path t home cwd))
+policy_by home cwd Usual = by_tree (λ t. policy_file t (usual_path t home cwd policy_name))
 
 -- the step that reads it; it touches nothing
 unfoldable pub policy_end : List ℕ → List ℕ → PolicyChoice → LaneStep CommandRefusal PolicyLists

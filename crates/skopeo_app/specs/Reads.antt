@@ -1,4 +1,4 @@
--- How the policy file is read: the words of private contracts.
+-- How files are read that a copy is judged by: the words of private contracts.
 use Rattle.std.specs.Prelude.{◌≡◌, ◌≤◌, List, ℕ, true, Result, IfErr, IfOk}
 use Rattle.skopeo_outside.specs.Tree.{Tree}
 use Rattle.skopeo_outside.specs.LaneTold.{LaneTold}
@@ -7,16 +7,17 @@ use Rattle.skopeo_outside.specs.declared.stop.Stop.TheVariants as stop
 use Rattle.skopeo_outside.specs.Seen.{Seen, OnEach, KeepsFrom}
 use Rattle.skopeo_outside.specs.Steps.{Ends}
 use Rattle.skopeo_outside.specs.OnLanes.{LaneStep, on_first}
-use Rattle.policy_file.specs.PolicyLists.{PolicyLists}
 use Rattle.transports.specs.declared.refusal.Refusal.TheVariants as image
 use Rattle.transports.specs.Has.{IsUntouched}
 use Rattle.skopeo_app.specs.declared.refusal.CommandRefusal.{CommandRefusal}
 use Rattle.skopeo_app.specs.declared.refusal.CommandRefusal.TheVariants as refusal
-use Rattle.skopeo_app.specs.declared.task.PolicyChoice.{PolicyChoice}
+use Rattle.skopeo_app.specs.declared.rules.Rules.{Rules}
+use Rattle.skopeo_app.specs.declared.task.CopyTask.{CopyTask}
 use Rattle.skopeo_app.specs.Refusals.{is_of_copy}
 use Rattle.skopeo_app.specs.Courses.{lane_course, seen_course}
-use Rattle.skopeo_app.specs.Policy.{by_tree, policy_end}
-use Rattle.skopeo_app.specs.Headline.{Counts, first_tree}
+use Rattle.skopeo_app.specs.Usual.{by_tree}
+use Rattle.skopeo_app.specs.Rules.{rules_end}
+use Rattle.skopeo_app.specs.Headline.{RulesCount, first_tree}
 
 -- the refusal that a stopped call of the files is
 abbrev pub stopped : Stop → ℕ → CommandRefusal
@@ -31,20 +32,20 @@ pub record IsQuiet (old new : LaneTold) : Type 0 where
   pub tree : new.files.tree ≡ old.files.tree
   pub faults : old.files.faults ≤ new.files.faults
 
--- a policy was read on a lane by a step, or why not
-pub record ReadsPolicy (step : LaneTold → LaneTold → Result PolicyLists CommandRefusal → Type 0) (old new : LaneTold) (result : Result PolicyLists CommandRefusal) : Type 0 where
+-- what files say was read on a lane by a step, or why not
+pub record ReadsAs {A : Type 0} (step : LaneTold → LaneTold → Result A CommandRefusal → Type 0) (old new : LaneTold) (result : Result A CommandRefusal) : Type 0 where
   pub ends : Ends lane_course step old new result
   pub quiet : IsQuiet old new
   pub other : IfErr result (λ e. is_of_copy e ≡ true)
 
--- the step that reads a policy of the lane's files
-unfoldable pub by_files : (Tree → Result PolicyLists CommandRefusal) → LaneStep CommandRefusal PolicyLists
-by_files policy old new r = by_tree policy old new r × IsUntouched old new
+-- the step that reads it of the lane's files
+unfoldable pub by_files : {A : Type 0} → (Tree → Result A CommandRefusal) → LaneStep CommandRefusal A
+by_files said old new r = by_tree said old new r × IsUntouched old new
 
--- the policy that counts was read on the first lane
-pub record ReadsFirst (home cwd : List ℕ) (choice : PolicyChoice) (old new : Seen) (result : Result PolicyLists CommandRefusal) : Type 0 where
-  pub ends : Ends seen_course (on_first lane_course (policy_end home cwd choice)) old new result
-  pub counts : IfOk result (Counts (first_tree old.lanes) home cwd choice)
+-- what a task's copy is judged by was read on the first lane
+pub record ReadsFirst (home cwd : List ℕ) (task : CopyTask) (old new : Seen) (result : Result Rules CommandRefusal) : Type 0 where
+  pub ends : Ends seen_course (on_first lane_course (rules_end home cwd task)) old new result
+  pub counts : IfOk result (RulesCount (first_tree old.lanes) home cwd task)
   pub quiet : OnEach (λ place a b. IsQuiet a b) old.lanes new.lanes
   pub rest : KeepsFrom 1 old.lanes new.lanes
   pub other : IfErr result (λ e. is_of_copy e ≡ true)

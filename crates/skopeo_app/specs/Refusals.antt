@@ -5,7 +5,7 @@ use Rattle.skopeo_outside.specs.Outside.{Rose, Told, HasPrefixOf}
 use Rattle.transports.specs.declared.refusal.Refusal.TheVariants as image
 use Rattle.transports.specs.Refusals as of_image
 use Rattle.skopeo_app.specs.declared.refusal.CommandRefusal.{CommandRefusal}
-use Rattle.skopeo_app.specs.declared.refusal.CommandRefusal.TheVariants.{Words, Reference, SamePlace, NotBuilt, PolicyMissing, PolicyInvalid, PolicyTooLarge, Image, Output}
+use Rattle.skopeo_app.specs.declared.refusal.CommandRefusal.TheVariants.{Words, Reference, SamePlace, NotBuilt, PolicyMissing, PolicyInvalid, PolicyTooLarge, ConfMissing, ConfInvalid, ConfTooLarge, Image, Output}
 use Rattle.skopeo_app.specs.Sinks.{SinkTold, HasFailed}
 
 -- want of memory, which may come at any step
@@ -53,15 +53,18 @@ is_of_words (SamePlace path) = true
 is_of_words (NotBuilt what) = true
 is_of_words _ = false
 
--- a refusal of the policy or of the image
+-- a refusal of the policy, of the configuration or of the image
 abbrev pub is_of_copy : CommandRefusal → Bool
 is_of_copy (Image e) = true
 is_of_copy (PolicyMissing path) = true
 is_of_copy (PolicyInvalid path kind member) = true
 is_of_copy PolicyTooLarge = true
+is_of_copy (ConfMissing path) = true
+is_of_copy (ConfInvalid path fault) = true
+is_of_copy ConfTooLarge = true
 is_of_copy _ = false
 
--- a refusal of words, policy, source, gate or destination, which comes ahead of the first change of a file
+-- a refusal of words, policy, configuration, source, gate or destination, which comes ahead of the first change of a file
 abbrev pub is_ahead : CommandRefusal → Bool
 is_ahead (Image image.Memory) = false
 is_ahead (Image (image.Files count)) = false

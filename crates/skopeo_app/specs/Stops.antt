@@ -1,20 +1,20 @@
 -- What the command leaves, at every exit; and what stands where it stopped, and where a copy was done.
 use Rattle.std.specs.Prelude.{◌≡◌, ◌⊎◌, List, ℕ, false, Result, Ok, Err}
 use Rattle.skopeo_outside.specs.Seen.{Seen, OnEach}
-use Rattle.policy_file.specs.PolicyLists.{PolicyLists}
 use Rattle.transports.specs.declared.report.Copied.{Copied}
 use Rattle.transports.specs.Has.{IsUntouched}
 use Rattle.copy_engine.specs.Stops.{IsTouched, IsGivenUp}
 use Rattle.copy_engine.specs.Delivered.{Delivers}
 use Rattle.skopeo_app.specs.declared.refusal.CommandRefusal.{CommandRefusal}
 use Rattle.skopeo_app.specs.declared.run.Done.{Done}
+use Rattle.skopeo_app.specs.declared.rules.Rules.{Rules}
 use Rattle.skopeo_app.specs.declared.task.CopyTask.{CopyTask}
 use Rattle.skopeo_app.specs.declared.task.Task.{Task}
 use Rattle.skopeo_app.specs.declared.task.Task.TheVariants.{Page, Copy}
 use Rattle.skopeo_app.specs.Sinks.{SinkTold, Gains}
 use Rattle.skopeo_app.specs.Refusals.{IsUnprinted, is_output}
 use Rattle.skopeo_app.specs.Courses.{CommandTold}
-use Rattle.skopeo_app.specs.Headline.{Counts, IsAsked, first_tree}
+use Rattle.skopeo_app.specs.Headline.{RulesCount, IsAsked, first_tree}
 use Rattle.skopeo_app.specs.Ending.{page_done, copy_done}
 
 -- ---- at every exit
@@ -23,13 +23,14 @@ use Rattle.skopeo_app.specs.Ending.{page_done, copy_done}
 abbrev pub AreUntouched : Seen → Seen → Type 0
 AreUntouched old new = OnEach (λ lane a b. IsUntouched a b) old.lanes new.lanes
 
--- what touched a destination: the words name a copy to it; its image was admitted in this call by the policy that counts,
+-- what touched a destination: the words name a copy to it; its image, from a source that the configuration which counts
+-- gives, was admitted in this call by the policy that counts,
 -- the destination could be replaced as it was at first, nothing else was touched, and each path in it is fair
 pub record IsCommandTouch (words : List (List ℕ)) (home cwd : List ℕ) (old new : Seen) : Type 0 where
   pub task : CopyTask
-  pub policy : PolicyLists
-  pub asked : IsAsked words home cwd old task policy
-  pub touched : IsTouched policy task.plan old new
+  pub rules : Rules
+  pub asked : IsAsked words home cwd old task rules
+  pub touched : IsTouched rules.policy rules.conf task.plan old new
 
 -- nothing was touched, or it was done so
 abbrev pub Leaves : List (List ℕ) → List ℕ → List ℕ → Seen → Seen → Type 0
@@ -44,9 +45,9 @@ pub record IsSilent (old new : SinkTold) (e : CommandRefusal) : Type 0 where
 
 -- the image that the policy which counts admits stands at the task's destination, and nothing else in it, and this tells it
 pub record HasDelivered (home cwd : List ℕ) (task : CopyTask) (old new : Seen) (copied : Copied) : Type 0 where
-  pub policy : PolicyLists
-  pub counts : Counts (first_tree old.lanes) home cwd task.policy policy
-  pub delivers : Delivers policy task.plan copied old new
+  pub rules : Rules
+  pub counts : RulesCount (first_tree old.lanes) home cwd task rules
+  pub delivers : Delivers rules.policy rules.conf task.plan copied old new
 
 -- an image was copied, and its lines could not be printed
 pub record IsUntold (home cwd : List ℕ) (task : CopyTask) (before after : CommandTold) (e : CommandRefusal) : Type 0 where

@@ -2,6 +2,7 @@
 use Rattle.std.specs.Prelude.{◌&&◌, ◌||◌, List, ℕ, Bool, if◌then◌else◌, Option, Some, None, Result, Ok, Err, ⊤}
 use Rattle.std.specs.Option.{is_some}
 use Rattle.image_ref.specs.Path.{cleaned}
+use Rattle.image_ref.specs.declared.place.Place.{Place}
 use Rattle.image_ref.specs.Reading.{reading_of}
 use Rattle.image_ref.specs.declared.fault.RefFault.{RefFault}
 use Rattle.image_ref.specs.declared.fault.PlaceFault.TheVariants as fault
@@ -20,23 +21,25 @@ use Rattle.transports.specs.declared.refusal.Refusal.TheVariants as image
 use Rattle.skopeo_app.specs.declared.refusal.Unbuilt.TheVariants as unbuilt
 use Rattle.skopeo_app.specs.declared.refusal.CommandRefusal.{CommandRefusal}
 use Rattle.skopeo_app.specs.declared.refusal.CommandRefusal.TheVariants.{Words, Reference, NotBuilt, Image}
-use Rattle.skopeo_app.specs.Plan.{◌>>=◌, is_folder, place_at, lanes_for, plan_of, IsSoundPlan}
+use Rattle.skopeo_app.specs.Plan.{◌>>=◌, is_folder, is_registry, place_at, lanes_for, plan_of, IsSoundPlan}
 use Rattle.skopeo_app.specs.declared.task.PolicyChoice.{PolicyChoice}
 use Rattle.skopeo_app.specs.declared.task.PolicyChoice.TheVariants.{Anything, Named, Usual}
+use Rattle.skopeo_app.specs.declared.task.ConfChoice.{ConfChoice}
+use Rattle.skopeo_app.specs.declared.task.ConfChoice.TheVariants as conf
+use Rattle.skopeo_app.specs.declared.task.CopyTask.{CopyTask}
 use Rattle.skopeo_app.specs.declared.task.Task.{Task}
 use Rattle.skopeo_app.specs.declared.task.Task.TheVariants.{Page, Copy}
 
 -- an option is given of which the work is not built
 abbrev pub asks_more : Common → Passing → Bool → Bool
 asks_more common passing short_names =
-    ((is_some common.registries_conf || is_some common.location_cache) || (is_some common.os || is_some common.arch))
-    || (((is_some common.variant || short_names) || (passing.all || passing.preserve))
-    || (((passing.remove_signatures || is_some passing.format) || (is_some passing.src_tls || is_some passing.dest_tls))
-    || (is_some passing.lookaside || is_some passing.verifier)))
+    ((is_some common.location_cache || is_some common.os) || (is_some common.arch || is_some common.variant))
+    || (((short_names || passing.all) || (passing.preserve || passing.remove_signatures))
+    || ((is_some passing.format || is_some passing.dest_tls) || (is_some passing.lookaside || is_some passing.verifier)))
 
--- copies are built between two folders
+-- copies are built from a folder or a registry to a folder
 abbrev pub are_built : CopyPlan → Bool
-are_built plan = is_folder plan.source && is_folder plan.dest
+are_built plan = (is_folder plan.source || is_registry plan.source) && is_folder plan.dest
 
 -- a copy with these options, where all that they ask for is built
 abbrev pub built : Common → Passing → Bool → CopyPlan → Result ⊤ CommandRefusal
@@ -52,12 +55,24 @@ by_path cwd None = Usual
 abbrev pub choice_of : List ℕ → Common → PolicyChoice
 choice_of cwd common = if common.insecure_policy then Anything else by_path cwd common.policy
 
+abbrev pub by_conf_path : List ℕ → Option (List ℕ) → ConfChoice
+by_conf_path cwd (Some path) = conf.Named (cleaned cwd path)
+by_conf_path cwd None = conf.Usual
+
+-- the configuration of the registries that the options ask for, where a registry is named
+abbrev pub conf_choice_of : List ℕ → Common → Place → ConfChoice
+conf_choice_of cwd common source = if is_registry source then by_conf_path cwd common.registries_conf else conf.Unread
+
+-- the copy of a plan, with what its options choose
+abbrev pub chosen : List ℕ → Common → Bool → CopyPlan → CopyTask
+chosen cwd common quiet plan = record { policy = choice_of cwd common; conf = conf_choice_of cwd common plan.source; quiet = quiet; plan = plan }
+
 -- one copy
 unfoldable pub copy_of : List ℕ → Common → Passing → Bool → Bool → List ℕ → List ℕ → Result Task CommandRefusal
 copy_of cwd common passing quiet short_names source dest = do
-  plan ← plan_of cwd (lanes_for common) source dest
+  plan ← plan_of cwd (lanes_for common) passing.src_tls source dest
   _ ← built common passing short_names plan
-  Ok (Copy (record { policy = choice_of cwd common; quiet = quiet; plan = plan }))
+  Ok (Copy (chosen cwd common quiet plan))
 
 -- what a copy needs
 abbrev pub IsSound : Task → Type 0

@@ -9,7 +9,7 @@ ghost use Rattle.skopeo_app.specs.Stops.{Leaves};
 ghost use Rattle.skopeo_app.specs.Answer.{told_by, CommandEnds};
 ghost use Rattle.skopeo_app.specs.Runs.{Tells, Finishes};
 
-use crate::lines::{refusal_line, status_of};
+use crate::lines::refusal_line;
 use crate::refusal::CommandRefusal;
 use crate::run::{Done, run};
 use skopeo_outside::{Files, Helper, Lane, Sink, Wire};
@@ -24,8 +24,8 @@ fn tell<E: Sink>(alloc: Global, err: &mut E, refusal: &CommandRefusal) -> u8
 {
     match refusal_line(alloc, refusal) {
         Ok(line) => {
-            let _ = err.write(line.as_bytes());
-            status_of(refusal)
+            let _ = err.write(line.text.as_str().as_bytes());
+            line.status
         }
         Err(_) => {
             let _ = err.write(b"skopeo: 4 OutOfMemory\n");

@@ -2,16 +2,21 @@
 #![tactic(auto)]
 
 mod command;
-mod job_lines;
+mod conf;
+mod files;
 mod law;
 mod lines;
 mod policy;
 mod refusal;
+mod rows;
+mod rules;
 mod run;
 mod task;
+mod words;
 
 pub use command::skopeo;
 pub use law::folder_copies;
 pub use refusal::{CommandRefusal, Unbuilt};
+pub use rules::Rules;
 pub use run::Done;
-pub use task::{CopyTask, PolicyChoice, Task};
+pub use task::{ConfChoice, CopyTask, PolicyChoice, Task};

@@ -6,6 +6,7 @@ ghost use Rattle.skopeo_app.specs.declared.refusal.CommandRefusal.TheVariants as
 use copy_engine::Refusal;
 use image_ref::PlaceFault;
 use policy_file::PolicyKind;
+use registries_conf::ConfFault;
 use skopeo_outside::{Memory, Text};
 use skopeo_words::WordsKind;
 
@@ -33,6 +34,12 @@ pub enum CommandRefusal {
     PolicyInvalid(Text, PolicyKind, Text),
     /// The policy file has more than 4,194,304 bytes.
     PolicyTooLarge,
+    /// No file stands at the path that was named for the configuration of the registries.
+    ConfMissing(Text),
+    /// The configuration of the registries at this path has this fault, which is never want of memory.
+    ConfInvalid(Text, ConfFault),
+    /// The configuration of the registries has more than 4,194,304 bytes.
+    ConfTooLarge,
     /// What the copy of the image answered, or a fault of the files, or want of memory.
     Image(Refusal),
     /// A write to the output failed, with the count of its faults at the end of that call.

@@ -12,11 +12,10 @@ ghost use Rattle.skopeo_app.specs.Prints.{Prints, IsPageAnswer};
 ghost use Rattle.skopeo_app.specs.Runs.{IsRun};
 
 use crate::lines::print_lines;
-use crate::policy::read_policy_for;
 use crate::refusal::CommandRefusal;
-use crate::task::{CopyTask, PolicyChoice, Task, read_task};
+use crate::rules::{Rules, read_rules};
+use crate::task::{CopyTask, Task, read_task};
 use copy_engine::{Copied, CopiedRow, CopyPlan, copy_image};
-use policy_file::Policy;
 use skopeo_outside::{Files, Lane, Many, Sink, Text, Wire};
 use std::alloc::Global;
 use std::thread::Threads;
@@ -28,19 +27,19 @@ pub struct Done {
     pub lines: Text,
 }
 
-/// The policy that counts, by the files of the first lane.
-fn read_policy_first<W: Wire, F: Files>(
+/// The policy and the configuration that count for a task, by the files of the first lane.
+fn read_rules_first<W: Wire, F: Files>(
     alloc: Global,
     home: &str,
     cwd: &str,
-    choice: &PolicyChoice,
+    task: &CopyTask,
     lanes: &mut Vec<Lane<W, F>>,
-) -> Result<Policy, CommandRefusal>
+) -> Result<Rules, CommandRefusal>
     requires lanes { AreLanes lanes.old.items }
     ensures lanes { AreLanes lanes.new.items }
-    ensures reads { ReadsFirst home.now cwd.now choice.now (seen lanes.old.items None 0) (seen lanes.new.items None 0) result }
+    ensures reads { ReadsFirst home.now cwd.now task.now (seen lanes.old.items None 0) (seen lanes.new.items None 0) result }
 {
-    read_policy_for(alloc, &mut lanes[0], home, cwd, choice)
+    read_rules(alloc, &mut lanes[0], home, cwd, task)
 }
 
 /// Copies the image of a plan.
@@ -48,20 +47,20 @@ fn copy_plan<R: Threads + Sync, W: Wire + Send, F: Files + Send>(
     rt: &R,
     alloc: Global,
     plan: &CopyPlan,
-    policy: &Policy,
+    rules: &Rules,
     lanes: &mut Vec<Lane<W, F>>,
 ) -> Result<Copied, CommandRefusal>
     requires plan { IsSoundPlan plan.now }
     requires lanes { AreLanes lanes.old.items }
-    ensures copies { CopiesImage policy.now plan.now (seen lanes.old.items None 0) (seen lanes.new.items None 0) result }
+    ensures copies { CopiesImage rules.now plan.now (seen lanes.old.items None 0) (seen lanes.new.items None 0) result }
 {
-    match copy_image(rt, alloc, plan, policy, lanes) {
+    match copy_image(rt, alloc, plan, &rules.policy, &rules.conf, lanes) {
         Ok(copied) => Ok(copied),
         Err(refusal) => Err(CommandRefusal::Image(refusal)),
     }
 }
 
-/// Copies the image of a task, under the policy that counts.
+/// Copies the image of a task, under the policy and the configuration that count.
 fn copy_named<R: Threads + Sync, W: Wire + Send, F: Files + Send>(
     rt: &R,
     alloc: Global,
@@ -74,8 +73,8 @@ fn copy_named<R: Threads + Sync, W: Wire + Send, F: Files + Send>(
     requires lanes { AreLanes lanes.old.items }
     ensures copies { CopiesTask home.now cwd.now task.now (seen lanes.old.items None 0) (seen lanes.new.items None 0) result }
 {
-    let policy = read_policy_first(alloc, home, cwd, &task.policy, lanes)?;
-    copy_plan(rt, alloc, &task.plan, &policy, lanes)
+    let rules = read_rules_first(alloc, home, cwd, task, lanes)?;
+    copy_plan(rt, alloc, &task.plan, &rules, lanes)
 }
 
 /// What is told of an image: nothing where that is asked for.

@@ -4,8 +4,8 @@ ghost use Rattle.std.specs.String.{string_bytes};
 ghost use Rattle.skopeo_outside.specs.Steps.{Says};
 ghost use Rattle.skopeo_app.specs.Refusals.{is_output};
 ghost use Rattle.skopeo_app.specs.Courses.{command_course};
-ghost use Rattle.skopeo_app.specs.Plan.{place_at, is_folder, folder_in, are_same, apart, lanes_for, plan_of};
-ghost use Rattle.skopeo_app.specs.Task.{asks_more, are_built, built, by_path, choice_of, copy_of, unbuilt_at, unbuilt_sync, task_in, IsSound, task_of};
+ghost use Rattle.skopeo_app.specs.Plan.{place_at, is_folder, is_registry, folder_in, are_same, apart, lanes_for, plan_of};
+ghost use Rattle.skopeo_app.specs.Task.{asks_more, are_built, built, by_path, choice_of, by_conf_path, conf_choice_of, chosen, copy_of, unbuilt_at, unbuilt_sync, task_in, IsSound, task_of};
 
 use crate::refusal::{CommandRefusal, Unbuilt};
 use copy_engine::{CopyPlan, Refusal};
@@ -27,10 +27,22 @@ pub enum PolicyChoice {
     Usual,
 }
 
+/// Which configuration of the registries counts.
+#[derive(Debug, Drop)]
+pub enum ConfChoice {
+    /// The one that says nothing, since no registry is named.
+    Unread,
+    /// That of the file at this path.
+    Named(Text),
+    /// That of the user where there is one, else that of the system, else the one that says nothing.
+    Usual,
+}
+
 /// One copy that is asked for.
 #[derive(Debug, Drop)]
 pub struct CopyTask {
     pub policy: PolicyChoice,
+    pub conf: ConfChoice,
     pub quiet: bool,
     pub plan: CopyPlan,
 }
@@ -62,6 +74,16 @@ fn is_folder(place: &Place) -> bool
     match place {
         Place::Docker(_) => false,
         Place::Dir(_) => true,
+        Place::Oci(_, _) => false,
+    }
+}
+
+fn is_registry(place: &Place) -> bool
+    ensures { result ≡ is_registry place.now }
+{
+    match place {
+        Place::Docker(_) => true,
+        Place::Dir(_) => false,
         Place::Oci(_, _) => false,
     }
 }
@@ -112,12 +134,13 @@ fn plan_of(
     alloc: Global,
     cwd: &str,
     lanes: u32,
+    src_tls: Option<bool>,
     source: &str,
     dest: &str,
 ) -> Result<CopyPlan, CommandRefusal>
     ensures apart { IfOk result (λ p. are_same p ≡ false) }
     ensures lanes { IfOk result (λ p. p.lanes ≡ lanes) }
-    ensures says { Says command_course (plan_of cwd.now lanes source.now dest.now) result }
+    ensures says { Says command_course (plan_of cwd.now lanes src_tls source.now dest.now) result }
     ensures other { IfErr result (λ e. is_output e ≡ false) }
 {
     let source = place_at(alloc, cwd, source)?;
@@ -126,6 +149,7 @@ fn plan_of(
         source,
         dest,
         lanes,
+        src_tls,
     };
     apart(alloc, plan)
 }
@@ -133,8 +157,7 @@ fn plan_of(
 fn asks_more(common: &Common, passing: &Passing, short_names: bool) -> bool
     ensures { result ≡ asks_more common.now passing.now short_names }
 {
-    common.registries_conf.is_some()
-        || common.location_cache.is_some()
+    common.location_cache.is_some()
         || common.os.is_some()
         || common.arch.is_some()
         || common.variant.is_some()
@@ -143,7 +166,6 @@ fn asks_more(common: &Common, passing: &Passing, short_names: bool) -> bool
         || passing.preserve
         || passing.remove_signatures
         || passing.format.is_some()
-        || passing.src_tls.is_some()
         || passing.dest_tls.is_some()
         || passing.lookaside.is_some()
         || passing.verifier.is_some()
@@ -152,7 +174,7 @@ fn asks_more(common: &Common, passing: &Passing, short_names: bool) -> bool
 fn are_built(plan: &CopyPlan) -> bool
     ensures { result ≡ are_built plan.now }
 {
-    is_folder(&plan.source) && is_folder(&plan.dest)
+    (is_folder(&plan.source) || is_registry(&plan.source)) && is_folder(&plan.dest)
 }
 
 /// Refuses options and places that are not built yet.
@@ -189,6 +211,44 @@ fn choice_of(alloc: Global, cwd: &str, common: &Common) -> Result<PolicyChoice, 
     }
 }
 
+/// The configuration of the registries that the options ask for, where a registry is named.
+fn conf_choice_of(
+    alloc: Global,
+    cwd: &str,
+    common: &Common,
+    source: &Place,
+) -> Result<ConfChoice, Memory>
+    ensures { IfOk result (λ choice. choice ≡ conf_choice_of cwd.now common.now source.now) }
+{
+    if !is_registry(source) {
+        return Ok(ConfChoice::Unread);
+    }
+    match &common.registries_conf {
+        Some(path) => Ok(ConfChoice::Named(clean_path(alloc, cwd, path.as_str())?)),
+        None => Ok(ConfChoice::Usual),
+    }
+}
+
+/// The copy of a plan, with what its options choose.
+fn chosen(
+    alloc: Global,
+    cwd: &str,
+    common: &Common,
+    quiet: bool,
+    plan: CopyPlan,
+) -> Result<CopyTask, Memory>
+    ensures { IfOk result (λ task. task ≡ chosen cwd.now common.now quiet plan) }
+{
+    let policy = choice_of(alloc, cwd, common)?;
+    let conf = conf_choice_of(alloc, cwd, common, &plan.source)?;
+    Ok(CopyTask {
+        policy,
+        conf,
+        quiet,
+        plan,
+    })
+}
+
 /// A copy that is asked for with a command's options.
 #[tactic(auto, using(crate::proofs::TaskLemmas::then_says, crate::proofs::TaskLemmas::then_refuses, crate::proofs::TaskLemmas::says_value, crate::proofs::TaskLemmas::says_memory, crate::proofs::TaskLemmas::sound), unfolding(crate::specs::Task::copy_of))]
 fn copy_of(
@@ -205,14 +265,10 @@ fn copy_of(
     ensures says { Says command_course (copy_of cwd.now common.now passing.now quiet short_names source.now dest.now) result }
     ensures other { IfErr result (λ e. is_output e ≡ false) }
 {
-    let plan = plan_of(alloc, cwd, lanes_for(common), source, dest)?;
+    let plan = plan_of(alloc, cwd, lanes_for(common), passing.src_tls, source, dest)?;
     require_built(common, passing, short_names, &plan)?;
-    let policy = choice_of(alloc, cwd, common)?;
-    Ok(Task::Copy(CopyTask {
-        policy,
-        quiet,
-        plan,
-    }))
+    let task = chosen(alloc, cwd, common, quiet, plan)?;
+    Ok(Task::Copy(task))
 }
 
 /// Reads the place of a command that is not built, and refuses it.

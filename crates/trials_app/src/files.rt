@@ -1,23 +1,18 @@
 // The files that a row gives.
+use crate::bytes::bytes_of;
 use skopeo_outside::{Memory, Shelf};
 use std::fs;
 use std::rt::Files;
 
-/// So many zero bytes where the name is a number, or else what a file beside the rows holds.
+/// A file of these bytes.
 fn put_file<R: AllocGlobal + Files>(
     rt: &R,
     shelf: &mut Shelf,
     path: &str,
     name: &str,
 ) -> Result<(), Memory> {
-    if let Ok(count) = name.parse::<u32>() {
-        let zeros = vec![in rt.alloc(); 0u8; count as usize]?;
-        return shelf.add(path, zeros.as_slice());
-    }
-    match fs::read(rt, name) {
-        Ok(bytes) => shelf.add(path, bytes.as_slice()),
-        Err(_) => Err(Memory),
-    }
+    let bytes = bytes_of(rt, name)?;
+    shelf.add(path, bytes.as_slice())
 }
 
 /// A word is `PATH=NAME`, or a path and a slash for a folder that was made.

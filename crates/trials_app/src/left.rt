@@ -1,5 +1,6 @@
 // What a command left.
-use skopeo_outside::{Entry, Idle, Lane, Many, MemFiles, MemSink, Memory, Shelf, Text};
+use crate::network::Network;
+use skopeo_outside::{Entry, Lane, Many, MemFiles, MemSink, MemWire, Memory, Shelf, Text};
 use std::alloc::Global;
 use std::str::from_utf8;
 
@@ -19,7 +20,7 @@ fn add_new(alloc: Global, all: &mut Shelf, shelf: &Shelf) -> Result<(), Memory> 
     Ok(())
 }
 
-fn shelf_of(lane: Lane<Idle, MemFiles>) -> Shelf {
+fn shelf_of(lane: Lane<MemWire<Network>, MemFiles>) -> Shelf {
     let Lane {
         from: _,
         to: _,
@@ -31,7 +32,10 @@ fn shelf_of(lane: Lane<Idle, MemFiles>) -> Shelf {
 }
 
 /// The first lane's files, and what else stands in `/w/dst` on another; of a path that several have, the first one's.
-pub fn gather(alloc: Global, mut lanes: Vec<Lane<Idle, MemFiles>>) -> Result<Shelf, Memory> {
+pub fn gather(
+    alloc: Global,
+    mut lanes: Vec<Lane<MemWire<Network>, MemFiles>>,
+) -> Result<Shelf, Memory> {
     let mut all = Shelf::new(alloc);
     while let Some(lane) = lanes.pop() {
         let mut shelf = shelf_of(lane);

@@ -3,11 +3,13 @@ use Rattle.std.specs.Prelude.{codes}
 use Rattle.std.specs.Option.{option_map}
 use Rattle.transports.specs.declared.refusal.Refusal.TheVariants as image
 use Rattle.skopeo_app.specs.declared.refusal.CommandRefusal.TheVariants as refusal
+use Rattle.skopeo_app.specs.Rows.{image_row, row_of}
 use Rattle.skopeo_app.specs.Lines.{refusal_line}
 use Rattle.skopeo_app.proofs.TellingLemmas.{gained, memory_line}
 use Rattle.skopeo_app.proofs.command.tell.Goals as goal
 
 pub returns-in-Err : goal.returns-in-Err
+unfolding row_of image_row
 returns-in-Err g c = record {
   told = refusal.Image image.Memory;
   same = inr refl;

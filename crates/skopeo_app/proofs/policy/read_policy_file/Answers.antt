@@ -7,7 +7,8 @@ use Rattle.layouts.specs.declared.read.Limited.{Limited}
 use Rattle.skopeo_app.specs.Courses.{lane_course}
 use Rattle.skopeo_app.specs.Policy.{policy_from}
 use Rattle.skopeo_app.specs.Reads.{stopped}
-use Rattle.skopeo_app.proofs.PolicyLemmas.{stopped_reads, file_reads}
+use Rattle.skopeo_app.proofs.ReadLemmas.{stopped_reads, file_reads}
+use Rattle.skopeo_app.proofs.PolicyLemmas.{from_other}
 use Rattle.skopeo_app.proofs.policy.read_policy_file.Goals as goal
 
 pub returns-in-Err : goal.returns-in-Err
@@ -20,4 +21,4 @@ pub returns : goal.returns
 returns g c =
     let was : IfSome c.args.lane.now.files.tree (λ t. c.in-Ok.file ≡ limited (file_at t c.args.path.now)) = search rules in
     let says : Says lane_course (policy_from c.args.path.now c.in-Ok.file) c.policy_from.result = search rules in
-    record { reads = file_reads c.args.path.now c.in-Ok.file c.args.lane.now _ c.policy_from.result (search rules) was says }
+    record { reads = file_reads (policy_from c.args.path.now) c.args.path.now c.in-Ok.file c.args.lane.now _ c.policy_from.result (from_other c.args.path.now c.in-Ok.file) (search rules) was says }

@@ -3,13 +3,14 @@ use Rattle.policy_file.specs.PolicyLists.{PolicyLists}
 use Rattle.transports.specs.declared.refusal.Refusal.TheVariants as image
 use Rattle.skopeo_app.specs.declared.refusal.CommandRefusal.{CommandRefusal}
 use Rattle.skopeo_app.specs.declared.refusal.CommandRefusal.TheVariants.{Image}
-use Rattle.skopeo_app.proofs.PolicyLemmas.{memory_reads, anything_reads, named_reads, usual_reads}
+use Rattle.skopeo_app.proofs.ReadLemmas.{quiet_same, memory_reads}
+use Rattle.skopeo_app.proofs.PolicyLemmas.{anything_reads, named_reads, usual_reads}
 use Rattle.skopeo_app.proofs.policy.read_policy_for.Goals as goal
 
 pub returns-in_err-accept_all-in-Anything : goal.returns-in_err-accept_all-in-Anything
 returns-in_err-accept_all-in-Anything g c =
     let r : ◌≡◌ {A = Result PolicyLists CommandRefusal} c.from_residual.result (Err (Image image.Memory)) = search rules in
-    record { reads = rw (r) (memory_reads _ c.args.lane.now) }
+    record { reads = rw (r) (memory_reads _ c.args.lane.now c.args.lane.now (quiet_same c.args.lane.now)) }
 
 pub returns-in_ok-accept_all-in-Anything : goal.returns-in_ok-accept_all-in-Anything
 returns-in_ok-accept_all-in-Anything g c = record { reads = anything_reads c.args.home.now c.args.cwd.now c.args.choice.now c.args.lane.now _ (search rules) (search rules) }

@@ -1,8 +1,17 @@
-use Rattle.std.proofs.Common.{rules, ◌≡◌, length}
-use Rattle.skopeo_app.proofs.PolicyLemmas.{homeless_reads}
+use Rattle.std.proofs.Common.{rules, ◌≡◌, Result, Err}
+use Rattle.policy_file.specs.PolicyLists.{PolicyLists}
+use Rattle.skopeo_app.specs.declared.refusal.CommandRefusal.{CommandRefusal}
+use Rattle.skopeo_app.specs.Usual.{usual_path}
+use Rattle.skopeo_app.specs.Policy.{policy_name, policy_file}
+use Rattle.skopeo_app.proofs.ReadLemmas.{lost_reads, found_reads}
 use Rattle.skopeo_app.proofs.policy.read_usual.Goals as goal
 
-pub returns-then-is_empty : goal.returns-then-is_empty
-returns-then-is_empty g c =
-    let none : length c.args.home.now ≡ 0 = search rules in
-    record { reads = homeless_reads c.args.home.now c.args.cwd.now _ _ c.read_policy_file.result none c.read_policy_file.ensures.reads }
+pub returns-in_err-path : goal.returns-in_err-path
+returns-in_err-path g c =
+    let r : ◌≡◌ {A = Result PolicyLists CommandRefusal} c.from_residual.result (Err c.in_err-path.field-0.0) = search rules in
+    record { reads = rw (r) (lost_reads (λ t. usual_path t c.args.home.now c.args.cwd.now policy_name) _ _ _ c.in_err-path.field-0.0 c.in_err-path.ensures.reads) }
+
+pub returns : goal.returns
+returns g c =
+    let is : c.as_str.result.now ≡ c.in_ok-path.path = search rules in
+    record { reads = found_reads (λ t. usual_path t c.args.home.now c.args.cwd.now policy_name) policy_file c.in_ok-path.path c.as_str.result.now _ _ _ c.read_policy_file.result c.in_ok-path.ensures.reads is c.read_policy_file.ensures.reads }

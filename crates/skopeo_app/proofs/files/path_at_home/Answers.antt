@@ -1,20 +1,19 @@
-use Rattle.std.proofs.Common.{rules, ◌≡◌, ℕ, Option, None, Some, Result, Err, IfSome, length}
+use Rattle.std.proofs.Common.{rules, ◌≡◌, ℕ, List, Option, None, Some, Result, Err, IfSome, length}
 use Rattle.std.specs.Option.{option_map}
 use Rattle.skopeo_outside.specs.Outside.{HasCause}
 use Rattle.skopeo_outside.specs.Tree.{file_at}
-use Rattle.policy_file.specs.PolicyLists.{PolicyLists}
 use Rattle.transports.specs.declared.refusal.Refusal.TheVariants as image
 use Rattle.skopeo_app.specs.declared.refusal.CommandRefusal.{CommandRefusal}
 use Rattle.skopeo_app.specs.declared.refusal.CommandRefusal.TheVariants.{Image}
-use Rattle.skopeo_app.specs.Policy.{user_path}
+use Rattle.skopeo_app.specs.Usual.{user_path}
 use Rattle.skopeo_app.specs.Reads.{stopped}
-use Rattle.skopeo_app.proofs.PolicyLemmas.{stopped_reads, memory_reads, user_reads, system_reads}
-use Rattle.skopeo_app.proofs.policy.read_at_home.Goals as goal
+use Rattle.skopeo_app.proofs.ReadLemmas.{quiet_same, stopped_reads, memory_reads, user_reads, system_reads}
+use Rattle.skopeo_app.proofs.files.path_at_home.Goals as goal
 
 pub returns-in_err-path : goal.returns-in_err-path
 returns-in_err-path g c =
-    let r : ◌≡◌ {A = Result PolicyLists CommandRefusal} c.from_residual.result (Err (Image image.Memory)) = search rules in
-    record { reads = rw (r) (memory_reads _ c.args.lane.now) }
+    let r : ◌≡◌ {A = Result (List ℕ) CommandRefusal} c.from_residual.result (Err (Image image.Memory)) = search rules in
+    record { reads = rw (r) (memory_reads _ c.args.lane.now c.args.lane.now (quiet_same c.args.lane.now)) }
 
 pub returns-in-Err : goal.returns-in-Err
 returns-in-Err g c =
@@ -24,13 +23,12 @@ returns-in-Err g c =
 
 pub returns-in-Ok-Some : goal.returns-in-Ok-Some
 returns-in-Ok-Some g c =
-    let ask : c.as_str.result.now ≡ user_path c.args.home.now c.args.cwd.now = search rules in
-    let is : c.as_str-in-Ok-Some.result.now ≡ user_path c.args.home.now c.args.cwd.now = search rules in
+    let ask : c.as_str.result.now ≡ user_path c.args.home.now c.args.cwd.now c.args.name.now = search rules in
     let there : IfSome c.args.lane.now.files.tree (λ t. Some c.in-Ok-Some.field-0-0 ≡ option_map length (file_at t c.as_str.result.now)) = search rules in
-    record { reads = user_reads c.args.home.now c.args.cwd.now _ _ c.in-Ok-Some.field-0-0 c.args.lane.now _ _ c.read_policy_file.result c.requires.some ask is (search rules) there c.read_policy_file.ensures.reads }
+    record { reads = user_reads c.args.home.now c.args.cwd.now c.args.name.now c.as_str.result.now c.in-Ok-Some.field-0-0 c.args.lane.now _ c.requires.some ask (search rules) there }
 
 pub returns : goal.returns
 returns g c =
-    let ask : c.as_str.result.now ≡ user_path c.args.home.now c.args.cwd.now = search rules in
+    let ask : c.as_str.result.now ≡ user_path c.args.home.now c.args.cwd.now c.args.name.now = search rules in
     let none : IfSome c.args.lane.now.files.tree (λ t. None ≡ option_map length (file_at t c.as_str.result.now)) = search rules in
-    record { reads = system_reads c.args.home.now c.args.cwd.now _ c.args.lane.now _ _ c.read_policy_file-in-Ok-None.result ask (search rules) none c.read_policy_file-in-Ok-None.ensures.reads }
+    record { reads = system_reads c.args.home.now c.args.cwd.now c.args.name.now c.as_str.result.now c.args.lane.now _ c.system_file-in-Ok-None.result ask c.system_file-in-Ok-None.ensures.path c.system_file-in-Ok-None.ensures.memory (search rules) none }

@@ -1,9 +1,0 @@
-use Rattle.std.proofs.Common.{rules, ◌≡◌, slice_index_or}
-use Rattle.skopeo_app.proofs.CountsLemmas.{first_reads}
-use Rattle.skopeo_app.proofs.run.read_policy_first.Goals as goal
-
-pub returns-clause-reads : goal.returns-clause-reads
-returns-clause-reads g c =
-    let x = c.index_mut.result.now in
-    let is : slice_index_or c.args.lanes.now.items 0 x ≡ x = search rules in
-    first_reads c.args.home.now c.args.cwd.now c.args.choice.now c.args.lanes.now.items x c.read_policy_for.new.lane c.read_policy_for.result c.requires.lanes.some is c.read_policy_for.ensures.reads
