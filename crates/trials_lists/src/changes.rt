@@ -9,15 +9,15 @@ use skopeo_outside::{Many, Memory, Text};
 use std::alloc::Global;
 
 /// The text that some bytes are.
-fn shown(alloc: Global, bytes: &[u8]) -> Result<Text, Memory> {
+pub fn shown(alloc: Global, bytes: &[u8]) -> Result<Text, Memory> {
     Text::from_str(alloc, str::from_utf8(bytes).unwrap_or("no UTF-8"))
 }
 
-fn fault_text(alloc: Global, fault: &ManifestFault) -> Result<Text, Memory> {
+pub fn fault_text(alloc: Global, fault: &ManifestFault) -> Result<Text, Memory> {
     Ok(Text::from_string(format!(in alloc; "{fault:?}")?))
 }
 
-fn text_of(alloc: Global, written: Result<Many<u8>, ConvertFault>) -> Result<Text, Memory> {
+pub fn text_of(alloc: Global, written: Result<Many<u8>, ConvertFault>) -> Result<Text, Memory> {
     match written {
         Ok(bytes) => shown(alloc, bytes.as_slice()),
         Err(fault) => Ok(Text::from_string(format!(in alloc; "{fault:?}")?)),

@@ -2,6 +2,7 @@
 #![tactic(auto)]
 
 mod changes;
+mod lists;
 
 use skopeo_outside::{Memory, Text};
 use std::alloc::Global;
@@ -13,6 +14,9 @@ fn answer(alloc: Global, call: &str, input: &str) -> Result<Text, Memory> {
         "convert" => changes::converted(alloc, input),
         "written" => changes::written(alloc, input),
         "back" => changes::back(alloc, input),
+        "list" => lists::list(alloc, input),
+        "choose" => lists::choose(alloc, input),
+        "convert-list" => lists::convert(alloc, input),
         _ => Text::from_str(alloc, "-"),
     }
 }
