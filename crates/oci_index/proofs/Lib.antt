@@ -1,0 +1,5 @@
+pub mod EntriesSoFar
+pub mod NumberLemmas
+pub mod IndexLemmas
+pub mod ChosenLemmas
+pub mod EditedLemmas

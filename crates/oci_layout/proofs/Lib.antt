@@ -1,0 +1,5 @@
+pub mod PathLemmas
+pub mod FoundLemmas
+pub mod JudgedLemmas
+pub mod PutLemmas
+pub mod MadeLemmas

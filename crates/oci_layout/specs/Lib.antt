@@ -1,0 +1,4 @@
+pub mod Layout
+pub mod Source
+pub mod Destination
+pub mod Written
