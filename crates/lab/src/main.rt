@@ -1,15 +1,15 @@
-//! A registry for trials on a port of this machine, as the words of the command line say.
+//! A verifier for trials, or a registry for trials on a port of this machine, as the words of the command line say.
 #![tactic(auto)]
 
 mod registry;
 
-use lab_registry::{Task, read_task};
+use lab_registry::{Task, answer_question, read_task};
 use registry::run_registry;
 use std::process::ExitCode;
 use std::rt::Env;
 use std::{env, io};
 
-/// The words that are known.
+/// The words that are known, beside none.
 const KNOWN: &str = "lab registry PORT COUNT";
 
 /// The words of the command line, without the program's name.
@@ -30,10 +30,15 @@ fn main(rt: HostRuntime) -> ExitCode {
         }
     };
     match read_task(&words) {
-        Some(Task::Help) => match println!(rt; "{KNOWN}") {
-            Ok(()) => ExitCode::SUCCESS,
-            Err(_) => ExitCode::from(1),
-        },
+        Some(Task::Verifier) => {
+            match answer_question(rt.alloc(), &mut rt.stdin(), &mut rt.stdout()) {
+                Ok(()) => ExitCode::SUCCESS,
+                Err(why) => {
+                    let _ = eprintln!(rt; "lab: {why}");
+                    ExitCode::from(1)
+                }
+            }
+        }
         Some(Task::Registry(port, count)) => match run_registry(&rt, port, count) {
             Ok(()) => ExitCode::SUCCESS,
             Err(error) => {
@@ -42,7 +47,7 @@ fn main(rt: HostRuntime) -> ExitCode {
             }
         },
         None => {
-            let _ = eprintln!(rt; "lab: known are the words: {KNOWN}");
+            let _ = eprintln!(rt; "lab: known are no words, and: {KNOWN}");
             ExitCode::from(2)
         }
     }

@@ -3,25 +3,25 @@ use Rattle.std.proofs.Common.{◌≡◌, ◌≢◌, ◌<◌, ◌≤◌, ℕ, Lis
 use Rattle.std.specs.declared.string.String.{String}
 use Rattle.std.specs.String.{string_bytes}
 use Rattle.lab_registry.specs.declared.words.Task.{Task}
-use Rattle.lab_registry.specs.declared.words.Task.TheVariants.{Help, Registry}
+use Rattle.lab_registry.specs.declared.words.Task.TheVariants.{Verifier, Registry}
 use Rattle.lab_registry.specs.Words.{IsPort, IsCount, Asks, ReadsPort, ReadsCount, ReadsTask}
 
 no_port_asked : (n p k : List ℕ) (task : Task) → ((port : ℕ) → ¬ IsPort p port) → ¬ Asks (n ∷ p ∷ k ∷ []) task
-no_port_asked n p k Help never asks = let e : (n ∷ p ∷ k ∷ []) ≡ [] = asks in cc
+no_port_asked n p k Verifier never asks = let e : (n ∷ p ∷ k ∷ []) ≡ [] = asks in cc
 no_port_asked n p k (Registry port count) never asks =
     let e : (n ∷ p ∷ k ∷ []) ≡ (codes "registry" ∷ asks.0 ∷ asks.1 ∷ []) = asks.2 in
     let same : asks.0 ≡ p = cc in
     never port (subst (λ w. IsPort w port) same asks.3)
 
 no_count_asked : (n p k : List ℕ) (task : Task) → ((count : ℕ) → ¬ IsCount k count) → ¬ Asks (n ∷ p ∷ k ∷ []) task
-no_count_asked n p k Help never asks = let e : (n ∷ p ∷ k ∷ []) ≡ [] = asks in cc
+no_count_asked n p k Verifier never asks = let e : (n ∷ p ∷ k ∷ []) ≡ [] = asks in cc
 no_count_asked n p k (Registry port count) never asks =
     let e : (n ∷ p ∷ k ∷ []) ≡ (codes "registry" ∷ asks.0 ∷ asks.1 ∷ []) = asks.2 in
     let same : asks.1 ≡ k = cc in
     never count (subst (λ w. IsCount w count) same asks.4)
 
 no_name_asked : (n p k : List ℕ) (task : Task) → n ≢ codes "registry" → ¬ Asks (n ∷ p ∷ k ∷ []) task
-no_name_asked n p k Help never asks = let e : (n ∷ p ∷ k ∷ []) ≡ [] = asks in cc
+no_name_asked n p k Verifier never asks = let e : (n ∷ p ∷ k ∷ []) ≡ [] = asks in cc
 no_name_asked n p k (Registry port count) never asks =
     let e : (n ∷ p ∷ k ∷ []) ≡ (codes "registry" ∷ asks.0 ∷ asks.1 ∷ []) = asks.2 in
     let same : n ≡ codes "registry" = cc in

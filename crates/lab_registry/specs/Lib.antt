@@ -3,3 +3,4 @@ pub mod Outside
 pub mod Answered
 pub mod Words
 pub mod Image
+pub mod Question

@@ -2,7 +2,7 @@
 use Rattle.std.specs.Prelude.{◌≡◌, ◌<◌, ◌^◌, ℕ, List, [], ◌∷◌, codes, Option, MatchOption}
 use Rattle.std.specs.Str.Parse.{IsNumeral, digits_value, without_leading_plus}
 use Rattle.lab_registry.specs.declared.words.Task.{Task}
-use Rattle.lab_registry.specs.declared.words.Task.TheVariants.{Help, Registry}
+use Rattle.lab_registry.specs.declared.words.Task.TheVariants.{Verifier, Registry}
 
 -- the word writes this number in decimal digits, and may have a plus in front
 pub record IsNumber (word : List ℕ) (n : ℕ) : Type 0 where
@@ -20,9 +20,9 @@ pub record IsCount (word : List ℕ) (count : ℕ) : Type 0 where
   pub number : IsNumber word count
   pub fits : count < 2 ^ 32
 
--- no words ask for help, and `registry PORT COUNT` asks for a registry
+-- no words ask for a verifier, and `registry PORT COUNT` asks for a registry
 abbrev pub Asks : List (List ℕ) → Task → Type 0
-Asks words Help = words ≡ []
+Asks words Verifier = words ≡ []
 Asks words (Registry port count) =
     (p : List ℕ) × (c : List ℕ) × (words ≡ codes "registry" ∷ p ∷ c ∷ [])
     × IsPort p port × IsCount c count

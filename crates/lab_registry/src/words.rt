@@ -6,7 +6,7 @@ ghost use Rattle.lab_registry.specs.Words.{ReadsPort, ReadsCount, ReadsTask};
 /// What the words ask for.
 #[derive(Clone, Copy, Debug, PartialEq, Eq)]
 pub enum Task {
-    Help,
+    Verifier,
     /// A registry at this port, which answers so many connections.
     Registry(u16, u32),
 }
@@ -56,7 +56,7 @@ pub fn read_task(words: &[String]) -> Option<Task>
     ensures exact { ReadsTask (map string_bytes words.now) result }
 {
     match words {
-        [] => Some(Task::Help),
+        [] => Some(Task::Verifier),
         [name, port, count] => read_three(name.as_str(), port.as_str(), count.as_str()),
         _ => None,
     }

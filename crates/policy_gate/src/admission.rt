@@ -3,6 +3,7 @@ ghost use Rattle.std.specs.Prelude.{◌≡◌, ◌<◌, ◌-◌, ◌^◌, length
 ghost use Rattle.digest_reader.specs.Digests.{digest};
 ghost use Rattle.policy_gate.specs.Gate.{Ends};
 ghost use Rattle.policy_gate.specs.Calls.{Gained, GateCause};
+ghost use Rattle.policy_gate.specs.Questions.{AskOnly};
 ghost use Rattle.policy_gate.specs.Admission.{submitted_of, case_with, gate_case, scope_in, done, IsOf, IsAdmitted};
 
 use crate::fault::GateFault;
@@ -58,6 +59,22 @@ impl<'a, F: Files, H: Helper> Admitted<'a, F, H> {
         ensures admitted { IsAdmitted F.tree H.runs self.now }
     {
         self.bytes.as_slice()
+    }
+
+    /// The manifest's bytes, which are moved.
+    pub fn into_bytes(self) -> Many<u8>
+        ensures value { result ≡ self.entry.bytes }
+        ensures admitted { IsAdmitted F.tree H.runs self.entry }
+    {
+        let Admitted {
+            bytes,
+            digest: _,
+            submitted: _,
+            files: _,
+            before: _,
+            after: _,
+        } = self;
+        bytes
     }
 
     /// The SHA-256 digest of the bytes.
@@ -152,6 +169,8 @@ pub fn admit<'a, F: Files, H: Helper>(
         (Ends (gate_case s manifest (F.tree files.old)) (scope_in s) s.chosen.list.now (done result)) }
     ensures admitted { let s = submitted_of chosen.now identity.entry signatures.entry cwd.entry program.entry in
         IfOk result (λ a. IsOf a s manifest files.old helper.old helper.new) }
+    ensures asked { let s = submitted_of chosen.now identity.entry signatures.entry cwd.entry program.entry in
+        Gained (H.runs helper.old) (H.runs helper.new) (AskOnly (gate_case s manifest (F.tree files.old))) }
     ensures same { F.tree files.new ≡ F.tree files.old }
     ensures cause { GateCause (F.faults files.old) (F.faults files.new) (H.faults helper.old) (H.faults helper.new) result }
 {

@@ -29,13 +29,25 @@ fn question(alloc: Global, keys: &str, signature: &str) -> Result<Many<u8>, Memo
     bytes_of(alloc, text.as_str())
 }
 
-/// The reply to a question, by a text of status and answer.
+/// The bytes of an answer, filled up to a length by `x`.
+fn filled(alloc: Global, answer: &str, length: usize) -> Result<Many<u8>, Memory> {
+    let mut bytes = bytes_of(alloc, answer)?;
+    if bytes.len() < length {
+        let rest = vec![in alloc; b'x'; length - bytes.len()]?;
+        bytes.extend(rest.as_slice())?;
+    }
+    Ok(bytes)
+}
+
+/// The reply to a question, by a text of status and answer. Behind the status may stand `*` and a length that the answer is filled
+/// up to.
 pub fn reply_of(alloc: Global, keys: &str, signature: &str, told: &str) -> Result<Reply, Memory> {
     let (status, answer) = told.split_once(" ").unwrap_or((told, ""));
+    let (status, length) = status.split_once("*").unwrap_or((status, "0"));
     Ok(Reply {
         program: Text::from_str(alloc, "v")?,
         input: question(alloc, keys, signature)?,
         status: status.parse::<i32>().unwrap_or(0),
-        answer: bytes_of(alloc, answer)?,
+        answer: filled(alloc, answer, length.parse::<usize>().unwrap_or(0))?,
     })
 }

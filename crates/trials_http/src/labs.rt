@@ -1,6 +1,6 @@
-// The registry for trials: its connections, and the words that start it.
+// The program for trials: the connections of its registry, the questions to its verifier, and its words.
 use crate::spelling::{shown, spelled};
-use lab_registry::{Unanswered, answer_request, hold_image, read_task};
+use lab_registry::{Unanswered, Unjudged, answer_question, answer_request, hold_image, read_task};
 use skopeo_outside::{Memory, Text};
 use std::alloc::Global;
 
@@ -26,4 +26,16 @@ pub fn task(alloc: Global, input: &str) -> Result<Text, Memory> {
     }
     let task = read_task(&words);
     Ok(Text::from_string(format!(in alloc; "{task:?}")?))
+}
+
+/// What the verifier answers to a question, or why it does not.
+pub fn judge(alloc: Global, input: &str) -> Result<Text, Memory> {
+    let asked = spelled(alloc, input)?;
+    let mut from = asked.as_slice();
+    let mut to = Vec::new(alloc);
+    match answer_question(alloc, &mut from, &mut to) {
+        Ok(()) => Ok(Text::from_string(format!(in alloc; "{:?}", shown(to.as_slice()))?)),
+        Err(Unjudged::Memory) => Err(Memory),
+        Err(fault) => Ok(Text::from_string(format!(in alloc; "{fault:?}")?)),
+    }
 }

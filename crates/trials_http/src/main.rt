@@ -34,6 +34,7 @@ fn answer(alloc: Global, call: &str, input: &str) -> Result<Text, Memory> {
         "registry" => registry::registry(alloc, input),
         "connection" => labs::connection(alloc, input),
         "task" => labs::task(alloc, input),
+        "judge" => labs::judge(alloc, input),
         step => steps::answer(alloc, step, input),
     }
 }
