@@ -1,5 +1,5 @@
 -- The lines of sources that were asked in vain, one after the other.
-use Rattle.std.proofs.Common.{◌≡◌, ◌∙◌, ◌+◌, ◌<◌, ◌≤◌, ◌++◌, ◌∷◌, [], List, ℕ, length, drop, get_or, sym, ap, subst, refl, add-one, append_assoc, append-nil}
+use Rattle.std.proofs.Common.{◌≡◌, ◌∙◌, ◌+◌, ◌<◌, ◌≤◌, ◌++◌, [], List, ℕ, length, drop, get_or, sym, ap, refl, add-one, append_assoc, append-nil}
 use Rattle.std.proofs.lemmas.List.{at_drop_more, at_drop_all}
 use Rattle.transports.specs.declared.attempt.Attempt.{Attempt}
 use Rattle.skopeo_app.specs.Lines.{attempt_line, attempt_lines}

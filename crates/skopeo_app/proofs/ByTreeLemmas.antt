@@ -1,11 +1,11 @@
 -- Steps that come to what a tree says, or to want of memory.
-use Rattle.std.proofs.Common.{◌≡◌, ◌∙◌, ◌≤◌, ◌<◌, ◌+◌, ◌-◌, ◌^◌, Bool, true, false, ℕ, zero, suc, min, List, [], ◌∷◌, ◌⊎◌, Option, Some, None, Result, Ok, Err, IfSome, length, slice_get, inl, inr, refl, sym, ap, subst, arith}
+use Rattle.std.proofs.Common.{◌≡◌, ◌∙◌, ◌≤◌, ◌<◌, Bool, true, false, ℕ, zero, suc, List, [], ◌∷◌, ◌⊎◌, Option, Some, None, Result, Ok, Err, IfSome, length, slice_get, inl, inr, refl, sym, ap, subst, arith}
 use Rattle.skopeo_outside.specs.Tree.{Tree}
 use Rattle.skopeo_outside.specs.Outside.{Rose}
 use Rattle.skopeo_outside.specs.LaneTold.{LaneTold, IsLater}
 use Rattle.skopeo_outside.specs.LaneLaws.{later_then, later_same, lane_at, each_same, each_then}
 use Rattle.skopeo_outside.specs.Seen.{Seen, OnFirst, OnEach, KeepsFrom}
-use Rattle.skopeo_outside.specs.Steps.{Then, goes, stops, ◌>>=◌, given, Course, Ends}
+use Rattle.skopeo_outside.specs.Steps.{goes, stops, ◌>>=◌, given, Course, Ends}
 use Rattle.skopeo_outside.specs.OnLanes.{LaneStep, SeenStep, on_first}
 use Rattle.copy_engine.proofs.LiftLemmas.{first_with}
 use Rattle.skopeo_app.specs.Headline.{first_tree}

@@ -8,16 +8,11 @@ use Rattle.skopeo_outside.specs.Seen.{Seen, OnFirst, OnEach, KeepsFrom}
 use Rattle.skopeo_outside.specs.Steps.{Then, goes, stops, ◌>>=◌, given, Ends, EndsBy}
 use Rattle.skopeo_outside.specs.OnLanes.{LaneStep, SeenStep, on_first}
 use Rattle.skopeo_outside.specs.declared.words.Fetched.{Fetched}
-use Rattle.image_ref.specs.declared.place.Place.{Place}
 use Rattle.image_ref.specs.declared.place.Place.TheVariants.{Dir}
 use Rattle.digest_reader.specs.declared.job.Job.{Job}
-use Rattle.layouts.specs.Bounds.{limited}
 use Rattle.layouts.specs.Destination.{MayReplace}
-use Rattle.layouts.specs.Names.{manifest_name, prefix_of}
 use Rattle.layouts.specs.Paths.{blob_path}
-use Rattle.layouts.specs.Source.{numbered, signatures_in}
 use Rattle.layouts.proofs.NameLemmas.{blob_in}
-use Rattle.skopeo_outside.specs.Folders.{joined}
 use Rattle.manifest_v2s2.specs.declared.image.Image.{Image as ImageRead}
 use Rattle.manifest_v2s2.specs.declared.kind.Kind.{Kind}
 use Rattle.copy_workers.specs.declared.cause.Cause.{Cause}
@@ -37,9 +32,9 @@ use Rattle.transports.specs.Refusals as of
 use Rattle.transports.specs.Places.{AreApart, dest_at}
 use Rattle.transports.specs.Courses.{lane_course}
 use Rattle.transports.specs.Blobs.{looked_at, is_whole, limit_of, mismatch_of}
-use Rattle.transports.specs.Given.{ManifestEnds, SignaturesEnd, BlobEnds, Spares, SameIn, manifest_in, by_folder}
+use Rattle.transports.specs.Given.{ManifestEnds, SignaturesEnd, Spares, SameIn}
 use Rattle.transports.specs.Has.{MayTake, MayNotTake}
-use Rattle.transports.specs.StepEnds.{reading, taking, putting, FailsBy, FailsFreely}
+use Rattle.transports.specs.StepEnds.{reading, taking, putting, FailsBy}
 use Rattle.transports.specs.Fair.{Works}
 use Rattle.transports.proofs.GivenLemmas.{only_spares}
 use Rattle.transports.proofs.WorkLemmas.{works_later, works_only}
@@ -65,7 +60,6 @@ use Rattle.skopeo_app.specs.declared.task.ConfChoice.{ConfChoice}
 use Rattle.skopeo_app.specs.declared.task.ConfChoice.TheVariants as chosen
 use Rattle.skopeo_app.specs.declared.task.Task.{Task}
 use Rattle.skopeo_app.specs.declared.task.Task.TheVariants.{Copy}
-use Rattle.skopeo_app.specs.Sinks.{SinkTold}
 use Rattle.skopeo_app.specs.Refusals.{is_memory, is_free, Shows, IsOfOutput, BlamesOutput}
 use Rattle.skopeo_app.specs.Courses as app
 use Rattle.skopeo_app.specs.Courses.{CommandTold, seen_course, command_course}
@@ -78,9 +72,8 @@ use Rattle.skopeo_app.specs.Headline.{first_tree}
 use Rattle.skopeo_app.specs.Rows.{image_row, row_of}
 use Rattle.skopeo_app.specs.Lines.{status_of}
 use Rattle.skopeo_app.specs.Ending.{copy_done, of_image, image_of_task, on_lanes, printing, copy_end, task_end, ending}
-use Rattle.skopeo_app.specs.Answer.{CommandEnds}
 use Rattle.skopeo_app.specs.ByTree.{and_then, policy_at, manifest_of, signatures_of, admitted_in, placed_in, copy_in, or_image, answer_in}
-use Rattle.skopeo_app.specs.Complete.{StartsWith, AllStart, IsFolderCopy, Judges, IsCalm, AreCalm, EndsByTree, IsGood, GoodEnds}
+use Rattle.skopeo_app.specs.Complete.{StartsWith, AllStart, Judges, IsCalm, AreCalm, EndsByTree, IsGood, GoodEnds}
 use Rattle.skopeo_app.proofs.ByTreeLemmas.{wants, Comes, value_is, comes_as, flat, refused_as, Tells, told, Equals, equal_then, given_as, Goes, goes_then, goes_given, goes_first, Calm, comes_then, comes_given, given_same, some_lane, first_tells, first_comes, first_still}
 use Rattle.skopeo_app.proofs.AskedLaw.{asks_copy}
 use Rattle.skopeo_app.proofs.RulesLemmas.{rules_of, both}

@@ -1,6 +1,6 @@
 -- The configuration of the registries that counts, as a step of a lane.
-use Rattle.std.proofs.Common.{◌≡◌, ◌∙◌, ◌⊎◌, [], List, ℕ, Bool, true, false, Result, Ok, Err, IfOk, inl, inr, refl, sym, ap, subst}
-use Rattle.std.specs.Str.{is_utf8}
+use Rattle.std.proofs.Common.{◌≡◌, ◌∙◌, [], List, ℕ, Bool, true, false, Result, Ok, Err, inl, inr, refl, sym, ap, subst}
+use Rattle.std.specs.Str.{is_utf8, chars}
 use Rattle.toml.proofs.OnLiterals.{toml_on_literals}
 use Rattle.skopeo_outside.specs.LaneTold.{LaneTold}
 use Rattle.skopeo_outside.specs.LaneLaws.{later_same}
@@ -14,7 +14,7 @@ use Rattle.registries_conf.specs.declared.fault.ConfFault.{ConfFault}
 use Rattle.registries_conf.specs.declared.fault.ConfFault.TheVariants as fault
 use Rattle.transports.specs.declared.refusal.Refusal.TheVariants as image
 use Rattle.skopeo_app.specs.declared.refusal.CommandRefusal.{CommandRefusal}
-use Rattle.skopeo_app.specs.declared.refusal.CommandRefusal.TheVariants.{ConfMissing, ConfInvalid, ConfTooLarge, Image}
+use Rattle.skopeo_app.specs.declared.refusal.CommandRefusal.TheVariants.{ConfMissing, ConfTooLarge, Image}
 use Rattle.skopeo_app.specs.declared.task.ConfChoice.{ConfChoice}
 use Rattle.skopeo_app.specs.declared.task.ConfChoice.TheVariants.{Unread, Named, Usual}
 use Rattle.skopeo_app.specs.Refusals.{is_of_copy}
@@ -27,7 +27,7 @@ use Rattle.skopeo_app.proofs.ReadLemmas.{quiet_same, quiet_untouched, err_same, 
 -- ---- what bytes say
 
 empty_says : conf_in [] ≡ Ok no_conf
-unfolding toml_on_literals settings_of checked is_utf8
+unfolding toml_on_literals settings_of checked is_utf8 chars
 empty_says = refl
 
 value_same : (c d : Settings) → ◌≡◌ {A = Result Settings ConfFault} (Ok c) (Ok d) → c ≡ d

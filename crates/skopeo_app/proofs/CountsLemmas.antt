@@ -1,5 +1,5 @@
 -- The policy and the configuration that were read on the first lane are those that count.
-use Rattle.std.proofs.Common.{◌≡◌, ◌∙◌, ◌<◌, Bool, true, false, List, [], ◌∷◌, ℕ, length, nat_le, cond, Option, Some, None, Result, Ok, Err, ◌⊎◌, inl, inr, IfSome, IfOk, slice_index_or, slice_set, refl, sym, ap, subst, arith}
+use Rattle.std.proofs.Common.{◌≡◌, ◌∙◌, ◌<◌, Bool, true, false, List, [], ◌∷◌, ℕ, length, nat_le, cond, Option, Some, None, Result, Ok, Err, inl, inr, IfSome, IfOk, slice_index_or, slice_set, refl, sym, ap, subst, arith}
 use Rattle.skopeo_outside.specs.Tree.{Tree, file_at}
 use Rattle.skopeo_outside.specs.LaneTold.{LaneTold, IsLater}
 use Rattle.skopeo_outside.specs.LaneLaws.{later_same}
@@ -30,7 +30,7 @@ use Rattle.skopeo_app.specs.Refusals.{is_memory}
 use Rattle.skopeo_app.specs.Courses.{lane_course}
 use Rattle.skopeo_app.specs.Usual.{usual_path}
 use Rattle.skopeo_app.specs.Policy.{policy_name, or_invalid, policy_from, policy_file, policy_end}
-use Rattle.skopeo_app.specs.Conf.{conf_name, no_conf, invalid_conf, or_bad, absent_conf, conf_from, conf_file, conf_end}
+use Rattle.skopeo_app.specs.Conf.{conf_name, no_conf, invalid_conf, or_bad, conf_from, conf_file, conf_end}
 use Rattle.skopeo_app.specs.Rules.{rules_end}
 use Rattle.skopeo_app.specs.Headline.{SaysPolicy, Counts, SaysConf, MaySay, ConfCounts, RulesCount, first_tree}
 use Rattle.skopeo_app.specs.Reads.{IsQuiet, ReadsAs, ReadsFirst}

@@ -1,6 +1,5 @@
 -- The policy file that counts, as a step of a lane.
 use Rattle.std.proofs.Common.{◌≡◌, List, ℕ, Result, Ok, Err, refl, sym, ap, subst, true}
-use Rattle.skopeo_outside.specs.Tree.{file_at}
 use Rattle.skopeo_outside.specs.LaneTold.{LaneTold}
 use Rattle.skopeo_outside.specs.LaneLaws.{later_same}
 use Rattle.skopeo_outside.specs.Steps.{Ends}

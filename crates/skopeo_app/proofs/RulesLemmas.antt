@@ -1,5 +1,5 @@
 -- The policy and the configuration that count, read one after the other.
-use Rattle.std.proofs.Common.{List, ℕ, Result, Ok, Err, refl}
+use Rattle.std.proofs.Common.{List, ℕ, Ok, Err, refl}
 use Rattle.skopeo_outside.specs.LaneTold.{LaneTold}
 use Rattle.skopeo_outside.specs.LaneLaws.{later_same}
 use Rattle.skopeo_outside.specs.Steps.{◌>>=◌, given, Ends}

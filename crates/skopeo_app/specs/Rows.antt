@@ -5,7 +5,6 @@ use Rattle.skopeo_outside.specs.declared.words.What.TheVariants as what
 use Rattle.skopeo_outside.specs.declared.words.Step.{Step}
 use Rattle.image_ref.specs.declared.fault.PlaceFault.{PlaceFault}
 use Rattle.policy_file.specs.declared.fault.PolicyKind.{PolicyKind}
-use Rattle.registries_conf.specs.declared.fault.ConfFault.{ConfFault}
 use Rattle.skopeo_words.specs.declared.fault.WordsKind.{WordsKind}
 use Rattle.copy_workers.specs.declared.cause.BlobMismatch.{BlobMismatch}
 use Rattle.copy_workers.specs.declared.cause.Cause.{Cause}

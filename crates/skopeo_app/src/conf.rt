@@ -50,7 +50,7 @@ fn conf_in(alloc: Global, path: &str, bytes: &[u8]) -> Result<Conf, CommandRefus
 fn no_conf(alloc: Global) -> Result<Conf, Memory>
     ensures { IfOk result (λ conf. conf ≡ no_conf) }
 {
-    match read_conf(alloc, b"") {
+    match read_conf(alloc, "".as_bytes()) {
         Ok(conf) => Ok(conf),
         Err(_) => Err(Memory),
     }

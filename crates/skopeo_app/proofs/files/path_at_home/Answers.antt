@@ -1,4 +1,4 @@
-use Rattle.std.proofs.Common.{rules, ◌≡◌, ℕ, List, Option, None, Some, Result, Err, IfSome, length}
+use Rattle.std.proofs.Common.{rules, ◌≡◌, ◌∙◌, sym, ℕ, List, Option, None, Some, Result, Err, IfSome, length}
 use Rattle.std.specs.Option.{option_map}
 use Rattle.skopeo_outside.specs.Outside.{HasCause}
 use Rattle.skopeo_outside.specs.Tree.{file_at}
@@ -25,10 +25,11 @@ pub returns-in-Ok-Some : goal.returns-in-Ok-Some
 returns-in-Ok-Some g c =
     let ask : c.as_str.result.now ≡ user_path c.args.home.now c.args.cwd.now c.args.name.now = search rules in
     let there : IfSome c.args.lane.now.files.tree (λ t. Some c.in-Ok-Some.field-0-0 ≡ option_map length (file_at t c.as_str.result.now)) = search rules in
-    record { reads = user_reads c.args.home.now c.args.cwd.now c.args.name.now c.as_str.result.now c.in-Ok-Some.field-0-0 c.args.lane.now _ c.requires.some ask (search rules) there }
+    let is : c.as_str.result.now ≡ c.in_ok-path.path = search rules in
+    record { reads = user_reads c.args.home.now c.args.cwd.now c.args.name.now c.in_ok-path.path c.in-Ok-Some.field-0-0 c.args.lane.now _ c.requires.some (sym is ∙ ask) (search rules) (rw (← is) there) }
 
 pub returns : goal.returns
 returns g c =
     let ask : c.as_str.result.now ≡ user_path c.args.home.now c.args.cwd.now c.args.name.now = search rules in
     let none : IfSome c.args.lane.now.files.tree (λ t. None ≡ option_map length (file_at t c.as_str.result.now)) = search rules in
-    record { reads = system_reads c.args.home.now c.args.cwd.now c.args.name.now c.as_str.result.now c.args.lane.now _ c.system_file-in-Ok-None.result ask c.system_file-in-Ok-None.ensures.path c.system_file-in-Ok-None.ensures.memory (search rules) none }
+    record { reads = system_reads c.args.home.now c.args.cwd.now c.args.name.now c.as_str.result.now c.args.lane.now _ c.system_file.result ask c.system_file.ensures.path c.system_file.ensures.memory (search rules) none }
