@@ -164,16 +164,32 @@ fn filled_by(alloc: Global, input: &str, piece: usize, into: &mut [u8]) -> Resul
     }
 }
 
+/// Adds what calls give that fill `into` when pieces of this size come, where it differs from what they gave before.
+fn push_filled_by(
+    alloc: Global,
+    text: &mut Text,
+    input: &str,
+    whole: &str,
+    piece: usize,
+    into: &mut [u8],
+) -> Result<(), Memory>
+    requires room { 0 < length into.old }
+    ensures room { length into.new ≡ length into.old }
+{
+    let found = filled_by(alloc, input, piece, into)?;
+    push_unless_same(text, whole, found.as_str())
+}
+
 /// Adds what calls give that fill `into`, and where it differs what they give when other pieces come.
 fn push_filled(alloc: Global, text: &mut Text, input: &str, into: &mut [u8]) -> Result<(), Memory>
     requires room { 0 < length into.old }
 {
     let whole = filled_by(alloc, input, WHOLE, into)?;
     text.push_str(whole.as_str())?;
-    for piece in [1, 2, 7, 65536] {
-        let found = filled_by(alloc, input, piece, into)?;
-        push_unless_same(text, whole.as_str(), found.as_str())?;
-    }
+    push_filled_by(alloc, text, input, whole.as_str(), 1, into)?;
+    push_filled_by(alloc, text, input, whole.as_str(), 2, into)?;
+    push_filled_by(alloc, text, input, whole.as_str(), 7, into)?;
+    push_filled_by(alloc, text, input, whole.as_str(), 65536, into)?;
     Ok(())
 }
 
