@@ -1,15 +1,9 @@
-//! Rows as data: each line of the input is a call of a layer, and is printed with what that call answers.
+//! Rows as data: each line of the input is a call on names, images or registries.conf, and is printed with what that call answers.
 #![tactic(auto)]
 
 mod confs;
-mod gates;
 mod images;
 mod names;
-mod policies;
-mod questions;
-mod replies;
-mod rules;
-mod scopes;
 mod shorts;
 mod sources;
 mod sums;
@@ -20,7 +14,7 @@ use skopeo_outside::{Memory, Text};
 use std::alloc::Global;
 use std::io;
 
-/// What a call on registries.conf or on the identity rules answers, and a dash for what is no call.
+/// What a call on registries.conf answers, and a dash for what is no call.
 fn conf_answer(alloc: Global, call: &str, input: &str) -> Result<Text, Memory> {
     match call {
         "read" => confs::read(alloc, input),
@@ -30,25 +24,7 @@ fn conf_answer(alloc: Global, call: &str, input: &str) -> Result<Text, Memory> {
         "insecure" => sources::insecure(alloc, input),
         "short" => shorts::short(alloc, input),
         "is-short" => shorts::is_short_name(alloc, input),
-        "rule" => rules::rule(alloc, input),
         _ => Text::from_str(alloc, "-"),
-    }
-}
-
-/// What a call on policies, scopes, payloads or gates answers, or one of those above.
-fn policy_answer(alloc: Global, call: &str, input: &str) -> Result<Text, Memory> {
-    match call {
-        "policy" => policies::policy(alloc, input.as_bytes()),
-        "policy-bytes" => policies::policy_bytes(alloc, input),
-        "lists" => policies::lists(alloc, input),
-        "choice" => scopes::choice(alloc, input),
-        "compared" => scopes::compared(alloc, input),
-        "scopes" => scopes::scopes(alloc, input),
-        "payload" => questions::payload(alloc, input),
-        "ask" => questions::ask_once(alloc, input),
-        "input" => questions::input(alloc, input),
-        "gate" => gates::gate(alloc, input),
-        _ => conf_answer(alloc, call, input),
     }
 }
 
@@ -68,7 +44,7 @@ fn image_answer(alloc: Global, call: &str, input: &str) -> Result<Text, Memory> 
         "sum" => sums::sum(alloc, input.as_bytes()),
         "sum-bytes" => sums::sum_bytes(alloc, input),
         "pieces" => sums::pieces(alloc, input),
-        _ => policy_answer(alloc, call, input),
+        _ => conf_answer(alloc, call, input),
     }
 }
 

@@ -1,4 +1,4 @@
-//! Rows as data: each line of the input is a message, an exchange, a request or a step at a registry, and is printed with what it comes to.
+//! Rows as data: each line of the input is a message, an exchange or a request, and is printed with what it comes to.
 #![tactic(auto)]
 
 mod bodies;
@@ -10,13 +10,26 @@ mod registry;
 mod requests;
 mod script;
 mod spelling;
-mod steps;
 
 use skopeo_outside::{Memory, Text};
 use std::alloc::Global;
 use std::io;
 
-/// What the call of a row answers. A call that is none of these is a step, or the method of a request.
+/// What a call on bodies or on what is in memory answers. A call that is none of these is the method of a request.
+fn body_answer(alloc: Global, call: &str, input: &str) -> Result<Text, Memory> {
+    match call {
+        "body" => bodies::body(alloc, input),
+        "calls" => bodies::calls(alloc, input),
+        "filled" => bodies::filled(alloc, input),
+        "registry" => registry::registry(alloc, input),
+        "connection" => labs::connection(alloc, input),
+        "task" => labs::task(alloc, input),
+        "judge" => labs::judge(alloc, input),
+        method => exchanges::exchanged(alloc, method, input),
+    }
+}
+
+/// What the call of a row answers.
 fn answer(alloc: Global, call: &str, input: &str) -> Result<Text, Memory> {
     match call {
         "head" => messages::head(alloc, input),
@@ -28,14 +41,7 @@ fn answer(alloc: Global, call: &str, input: &str) -> Result<Text, Memory> {
         "first" => exchanges::first(alloc, input),
         "cuts" => exchanges::cuts(alloc, input),
         "upload" => exchanges::upload(alloc, input),
-        "body" => bodies::body(alloc, input),
-        "calls" => bodies::calls(alloc, input),
-        "filled" => bodies::filled(alloc, input),
-        "registry" => registry::registry(alloc, input),
-        "connection" => labs::connection(alloc, input),
-        "task" => labs::task(alloc, input),
-        "judge" => labs::judge(alloc, input),
-        step => steps::answer(alloc, step, input),
+        _ => body_answer(alloc, call, input),
     }
 }
 

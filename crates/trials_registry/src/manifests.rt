@@ -1,9 +1,9 @@
 // Manifests that are fetched, put and deleted, and blobs that are read.
 ghost use Rattle.registry_http.specs.Requests.{IsAsked};
 
-use crate::steps::script::{ended, wire_to};
-use crate::steps::sites::{is_reference, of_abc, registry_at};
-use crate::steps::told::{exchange_text, fault_text, text_of};
+use crate::script::{ended, wire_to};
+use crate::sites::{is_reference, of_abc, registry_at};
+use crate::told::{exchange_text, fault_text, text_of};
 use http_exchange::next_piece;
 use http_message::ExchangeFault;
 use registry_http::{Registry, RegistryFault};

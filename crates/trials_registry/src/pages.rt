@@ -1,9 +1,9 @@
 // The tags of a repository and the signatures of a manifest, which come in several answers.
 ghost use Rattle.registry_http.specs.Requests.{IsAsked};
 
-use crate::steps::script::{ended, ended_last, wire_to};
-use crate::steps::sites::{of_abc, registry_at};
-use crate::steps::told::{fault_text, text_of};
+use crate::script::{ended, ended_last, wire_to};
+use crate::sites::{of_abc, registry_at};
+use crate::told::{fault_text, text_of};
 use image_ref::is_path;
 use registry_http::{Registry, RegistryFault, get_signatures, is_base};
 use skopeo_outside::{Many, Memory, Text};

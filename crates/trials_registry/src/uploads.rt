@@ -1,9 +1,9 @@
 // Blobs at a destination: whether they are there, taken out of another repository, or uploaded.
 ghost use Rattle.registry_http.specs.Requests.{IsAsked};
 
-use crate::steps::script::{Line, ended, wire_to};
-use crate::steps::sites::{of_abc, registry_at};
-use crate::steps::told::{exchange_text, fault_text};
+use crate::script::{Line, ended, wire_to};
+use crate::sites::{of_abc, registry_at};
+use crate::told::{exchange_text, fault_text};
 use http_exchange::{begin, end, send_piece};
 use image_ref::is_path;
 use registry_http::{Registry, RegistryFault, Upload};
