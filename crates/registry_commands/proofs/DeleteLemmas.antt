@@ -1,5 +1,5 @@
 -- A deletion, by what its calls came to.
-use Rattle.std.proofs.Common.{◌≡◌, ℕ, Bool, true, false, List, Option, Some, None, Result, Ok, Err, if◌then◌else◌, refl, sym, ap, subst, ◌∙◌}
+use Rattle.std.proofs.Common.{◌≡◌, [], ℕ, Bool, true, false, List, Option, Some, None, Result, Ok, Err, if◌then◌else◌, refl, sym, ap, subst, ◌∙◌}
 use Rattle.std.specs.Str.{bytes_eq}
 use Rattle.std.proofs.lemmas.Slice.Eq.{bytes_eq-Decides}
 use Rattle.skopeo_outside.specs.LaneTold.{WireTold, LaneTold}
@@ -9,6 +9,10 @@ use Rattle.image_ref.specs.Reference.{Reference}
 use Rattle.digest_reader.specs.Digests.{digest}
 use Rattle.registry_http.specs.declared.fault.RegistryFault.{RegistryFault}
 use Rattle.registry_http.specs.declared.registry.Registry.{Registry}
+use Rattle.http_exchange.specs.Plain.{GainsPlain}
+use Rattle.registry_http.specs.Requests.{manifest_request}
+use Rattle.registry_http.specs.Rows.{manifest_row}
+use Rattle.registry_http.specs.Steps.{Steps, CountsStep, most_manifest_bytes}
 use Rattle.registries_conf.specs.Settings.{Settings}
 use Rattle.registries_conf.specs.SourcesOf.{is_insecure}
 use Rattle.transports.specs.Registries.{registry_of, name_in}
@@ -123,3 +127,9 @@ deletion_unasked conf tls r mark host a is may at = record {
 pub deletion_at : (conf : Settings) (tls : Option Bool) (r : Reference) (mark : Bool) (a b : LaneTold) (result : Result (Unit {0}) CommandFault) → mark ≡ is_insecure conf r → may_ask tls mark ≡ true → OnDest a b
     → ((c : Settings) (t : Option Bool) → may_ask t (is_insecure c r) ≡ true → Deletes c t r a.to b.to result) → Deletion conf tls r a b result
 deletion_at conf tls r mark a b result is may on ends = record { on = on; ends = ends conf tls (sym (ap (λ (m : Bool). may_ask tls m) is) ∙ may) }
+
+-- a manifest was asked for on a wire
+pub gets_by : (registry : Registry) (name : List ℕ) (named : Option (List ℕ)) (a b : WireTold) (answer : Result Fetched RegistryFault) (result : Result (List ℕ) CommandFault)
+    → Steps step.Manifest (manifest_request registry name) [] most_manifest_bytes (manifest_row step.Manifest) a.talks b.talks answer → GainsPlain a.talks b.talks → CountsStep a.faults b.faults answer → b.is_open ≡ false
+    → result ≡ judged named b.faults answer → Gets registry name named a b result
+gets_by registry name named a b answer result steps plain counts closed is = record { answer = answer; gets = record { step = steps; plain = plain; counts = counts; closed = closed }; is = is }

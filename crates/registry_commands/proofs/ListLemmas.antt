@@ -27,7 +27,7 @@ use Rattle.registry_commands.proofs.WireLemmas.{wire_now, later_from}
 
 -- ---- the sources
 
-abbrev Told : Type 0
+abbrev pub Told : Type 0
 Told = Result (List Source) SourcesFault
 
 err_ok : (e : SourcesFault) (x : List Source) → ◌≡◌ {A = Told} (Ok x) (Err e) → ⊥
@@ -45,6 +45,9 @@ pub is_blocked : (conf : Settings) (r : Reference) (n : ℕ) → ◌≡◌ {A = 
     → IsUnsourced conf r (fault.Blocked n)
 is_blocked conf r n (inl e) rules = absurd (no_want n e)
 is_blocked conf r n (inr e) rules = inr (n, (rules (Err (unsourced.Blocked n))).0 (sym e), refl)
+
+pub is_blocked_by : (conf : Settings) (r : Reference) (n : ℕ) (x : Told) → x ≡ Err (unsourced.Blocked n) → (x ≡ Err unsourced.Memory) ⊎ (x ≡ sources_of conf r) → ((a : Told) → (sources_of conf r ≡ a) ↔ HasSources conf r a) → IsUnsourced conf r (fault.Blocked n)
+is_blocked_by conf r n x is says rules = is_blocked conf r n (subst (λ (y : Told). (y ≡ Err unsourced.Memory) ⊎ (y ≡ sources_of conf r)) is says) rules
 
 -- the primary source stands behind the others
 pub record HasPrimary (conf : Settings) (r : Reference) (sources : List Source) : Type 0 where

@@ -113,7 +113,7 @@ fn delete_at<W: Wire, F: Files>(
 }
 
 /// The same, where the host may be asked over plain HTTP.
-#[tactic(auto, using(crate::proofs::DeleteLemmas::deletion_wants, crate::proofs::DeleteLemmas::deletion_unasked, crate::proofs::DeleteLemmas::deletion_at))]
+#[tactic(auto, using(crate::proofs::DeleteLemmas::deletion_wants, crate::proofs::DeleteLemmas::deletion_unasked))]
 fn delete_by<W: Wire, F: Files>(
     alloc: Global,
     conf: &Conf,
@@ -133,7 +133,6 @@ fn delete_by<W: Wire, F: Files>(
 
 /// Deletes the manifest of a reference at the host that it names, on the lane's wire to a destination: gets it by its digest or
 /// its tag, and deletes the digest of the bytes that came. `tls` says whether TLS is verified, where that is said.
-#[tactic(auto, using(crate::proofs::SaidLemmas::deletion_done, crate::proofs::SaidLemmas::deletion_puts, crate::proofs::SaidLemmas::deletion_later))]
 pub fn delete<W: Wire, F: Files>(
     alloc: Global,
     conf: &Conf,

@@ -21,7 +21,7 @@ use std::alloc::Global;
 use transports::{Attempt, AttemptCause};
 
 /// The sources of a repository by the configuration.
-#[tactic(auto, using(crate::proofs::ListLemmas::has_sources, crate::proofs::ListLemmas::is_blocked))]
+#[tactic(auto, using(crate::proofs::ListLemmas::has_sources))]
 fn sources_for(
     alloc: Global,
     conf: &Conf,
@@ -89,7 +89,7 @@ fn ask_tags<W: Wire, F: Files>(
 }
 
 /// Asks for the tags at a source, where it may be asked.
-#[tactic(auto, using(crate::proofs::ListLemmas::lists_want, crate::proofs::ListLemmas::lists_rewritten, crate::proofs::ListLemmas::lists_unasked, crate::proofs::ListLemmas::lists_asked))]
+#[tactic(auto, using(crate::proofs::ListLemmas::lists_want))]
 fn tags_at<W: Wire, F: Files>(
     alloc: Global,
     source: &Source,
@@ -112,7 +112,7 @@ fn tags_at<W: Wire, F: Files>(
 }
 
 /// The same at the primary location.
-#[tactic(auto, using(crate::proofs::ListLemmas::some_source, crate::proofs::ListLemmas::listing_refused, crate::proofs::ListLemmas::listing_at))]
+#[tactic(auto, using(crate::proofs::ListLemmas::some_source))]
 fn list_by<W: Wire, F: Files>(
     alloc: Global,
     conf: &Conf,
@@ -129,7 +129,6 @@ fn list_by<W: Wire, F: Files>(
 
 /// The tags of a repository, asked for page by page at its primary location on the lane's wire to a source. `tls` says whether
 /// TLS is verified, where that is said.
-#[tactic(auto, using(crate::proofs::ListLemmas::listing_plain, crate::proofs::ListLemmas::listing_later))]
 pub fn list_tags<W: Wire, F: Files>(
     alloc: Global,
     conf: &Conf,
