@@ -1,0 +1,4 @@
+pub mod WireLemmas
+pub mod DeleteLemmas
+pub mod SaidLemmas
+pub mod ListLemmas

@@ -1,0 +1,5 @@
+pub mod Faults
+pub mod Said
+pub mod Deletes
+pub mod Lists
+pub mod Calls
