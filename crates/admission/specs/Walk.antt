@@ -13,12 +13,12 @@ use Rattle.admission.specs.declared.take.Taken.{Taken}
 use Rattle.admission.specs.Parts.{kind_in, image_in}
 use Rattle.admission.specs.Admission.{admitted_of}
 
--- source and gate, by the list that the policy has for the source as it is named
+-- source and gate, by the list that the policy has for the image as it is named
 unfoldable pub admission : CopyPlan → Settings → PolicyLists → LaneStep Refusal Taken
 admission plan conf policy = do
   it ← found plan conf
-  kind ← given (kind_in it.fetched)
-  image ← given (image_in kind it.fetched)
-  signatures ← reading (SignaturesEnd it.from None)
-  admitted ← given (admitted_of policy plan.source it.fetched kind image signatures)
-  given (Ok (record { from = it.from; image = admitted }))
+  kind ← given (kind_in it.found.fetched)
+  image ← given (image_in kind it.found.fetched)
+  signatures ← reading (SignaturesEnd it.found.from None)
+  admitted ← given (admitted_of policy it.place it.found.fetched kind image signatures)
+  given (Ok (record { from = it.found.from; image = admitted }))

@@ -13,7 +13,7 @@ use policy_file::Policy;
 use registries_conf::Conf;
 use skopeo_outside::{Files, Lane, Wire};
 use std::alloc::Global;
-use transports::{CopyPlan, Refusal, find_source};
+use transports::{CopyPlan, Found, FoundImage, Refusal, find_source};
 
 /// Reads the plan's source, and judges the image as it is named.
 #[tactic(auto, using(skopeo_outside::proofs::StepLemmas::given_goes, skopeo_outside::proofs::StepLemmas::given_stops, skopeo_outside::proofs::StepLemmas::given_ends, skopeo_outside::proofs::StepLemmas::then_ends, skopeo_outside::proofs::StepLemmas::then_stops, transports::proofs::HasLemmas::untouched_then, transports::proofs::GivenLemmas::spares_then), unfolding(crate::specs::Walk::admission))]
@@ -28,18 +28,11 @@ pub fn admit_source<W: Wire, F: Files>(
     ensures untouched { IsUntouched lane.old lane.new }
     ensures spares { IfOk result (λ it. Spares it.from lane.old lane.new) }
 {
-    let it = find_source(alloc, plan, conf, lane)?;
-    let kind = require_kind(alloc, &it.fetched)?;
-    let image = read_parts(alloc, kind, &it.fetched)?;
-    let signatures = it.from.read_signatures(alloc, lane, None)?;
-    let admitted = admit(
-        alloc,
-        policy,
-        &plan.source,
-        it.fetched,
-        kind,
-        image,
-        signatures,
-    )?;
-    take(it.from, admitted)
+    let FoundImage { place, found } = find_source(alloc, plan, conf, lane)?;
+    let Found { from, fetched } = found;
+    let kind = require_kind(alloc, &fetched)?;
+    let image = read_parts(alloc, kind, &fetched)?;
+    let signatures = from.read_signatures(alloc, lane, None)?;
+    let admitted = admit(alloc, policy, &place, fetched, kind, image, signatures)?;
+    take(from, admitted)
 }

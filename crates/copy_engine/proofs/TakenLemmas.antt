@@ -1,5 +1,5 @@
 -- What a source gave that was admitted, step by step.
-use Rattle.std.proofs.Common.{◌≡◌, ◌≢◌, ◌∙◌, ◌<◌, ℕ, Bool, List, [], ◌∷◌, length, Option, None, Result, Ok, Err, IfSome, refl, sym, ap, subst, arith}
+use Rattle.std.proofs.Common.{◌≡◌, ◌≢◌, ◌∙◌, ◌<◌, ℕ, Bool, List, [], ◌∷◌, length, Option, Some, None, Result, Ok, Err, IfSome, inl, refl, sym, ap, subst, arith}
 use Rattle.std.specs.Prelude.{⊤}
 use Rattle.skopeo_outside.specs.Tree.{Tree}
 use Rattle.skopeo_outside.specs.LaneTold.{LaneTold, IsLater}
@@ -24,6 +24,11 @@ use Rattle.registries_conf.specs.declared.sources.Source.{Source as Location}
 use Rattle.registries_conf.specs.declared.fault.SourcesFault.{SourcesFault}
 use Rattle.registries_conf.specs.declared.fault.SourcesFault.TheVariants as blocked
 use Rattle.registries_conf.proofs.SourcesLaw.{says_sources}
+use Rattle.registries_conf.specs.Expand.{expand}
+use Rattle.registries_conf.specs.IsExpanded.{StandsFor}
+use Rattle.registries_conf.specs.declared.fault.ShortFault.{ShortFault}
+use Rattle.registries_conf.specs.declared.fault.ShortFault.TheVariants as short
+use Rattle.registries_conf.proofs.ExpandLaw.{says_expanded}
 use Rattle.policy_scope.specs.Chosen.{chosen}
 use Rattle.transports.specs.declared.source.Source.{Source}
 use Rattle.transports.specs.declared.source.Source.TheVariants as source
@@ -34,21 +39,25 @@ use Rattle.transports.specs.declared.refusal.Refusal.{Refusal}
 use Rattle.transports.specs.declared.refusal.Refusal.TheVariants as refusal
 use Rattle.transports.specs.declared.refusal.Part.TheVariants as part
 use Rattle.transports.specs.declared.found.Found.{Found}
+use Rattle.transports.specs.declared.found.FoundImage.{FoundImage}
 use Rattle.transports.specs.declared.attempt.Attempt.{Attempt}
 use Rattle.transports.specs.Places.{AreApart, IsBetweenPlaces, GoesTo, dest_at}
-use Rattle.transports.specs.Found.{by_sources, by_attempts, trying, in_folder, at_registries, found_for, found}
+use Rattle.transports.specs.Found.{by_sources, by_attempts, trying, in_folder, at_registries, found_for, found_as, by_expansion, by_names, trying_names, at_names, found_short, found_by, found}
+use Rattle.transports.specs.Names.{AreNamesTried, as_named}
 use Rattle.transports.specs.Tried.{AreTried}
 use Rattle.transports.specs.Within.{Within}
-use Rattle.transports.proofs.WithinLemmas.{within_later, within_now}
+use Rattle.transports.proofs.WithinLemmas.{within_later, within_as, within_now}
 use Rattle.transports.proofs.TriedLemmas.{tried_gave, given_manifest}
+use Rattle.transports.proofs.NameLemmas.{names_gave}
 use Rattle.transports.specs.Courses.{lane_course, call_course}
+use Rattle.transports.specs.StepEnds.{reading}
 use Rattle.transports.specs.Given.{ManifestEnds, SignaturesEnd, by_folder}
 use Rattle.transports.specs.Has.{IsUntouched}
 use Rattle.transports.proofs.GivenLemmas.{manifest_later, signatures_later}
 use Rattle.admission.specs.declared.take.Taken.{Taken}
 use Rattle.admission.specs.Admission.{Admission, IsAdmitted, judged_by, where_judged, admitted_of}
 use Rattle.admission.specs.Walk.{admission}
-use Rattle.copy_engine.specs.Headline.{Answered, IsOfPlan}
+use Rattle.copy_engine.specs.Headline.{AnsweredAt, Answered, IsOfPlan}
 use Rattle.copy_engine.proofs.LiftLemmas.{first_then, first_of}
 use Rattle.copy_engine.proofs.PlacedLemmas.{then_ok}
 
@@ -103,13 +112,92 @@ tried_is tls conf r a b it walk =
     (one.1, sources_ok (sources_of conf r) one.1 one.2.1, subst (λ x. AreTried tls one.1 x b (Ok it)) one.2.0 tried, subst (λ x. IsUntouched x b) one.2.0 one.3.1)
 
 found_is : (tls : Option Bool) (conf : Settings) (place : Place) (a b : LaneTold) (it : Found) → found_for tls conf place a b (Ok it) → IsFound tls conf place it a b
-unfolding given
+unfolding found_for given
 found_is tls conf (Dir path) a b it walk = let f = folder_is path a b it walk in record { answered = f.0; gave = f.1; untouched = f.2; on = subst (λ s. GoesOnAt s a b) (sym f.0) tt }
 found_is tls conf (Docker r) a b it walk =
     let t = tried_is tls conf r a b it walk in
     let g = tried_gave tls t.0 it a b t.2 in
     record { answered = (t.0, says_sources conf r (Ok t.0) t.1, within_now (λ x y. AreTried tls t.0 x y (Ok it)) a b t.2); gave = given_manifest it a b g; untouched = t.3; on = subst (λ s. GoesOnAt s a b) (sym g.from) g.later }
 found_is tls conf (Oci path name) a b it walk = let no : ◌≡◌ {A = Result Found Refusal} (Ok it) (Err (refusal.NotBuilt part.Place)) = walk.1 in cc
+
+-- ---- the image as which it was asked for
+
+-- the same by whether a short name is given
+abbrev pub ImageFor : Option Bool → Settings → Place → Option (List ℕ) → FoundImage → LaneTold → LaneTold → Type 0
+ImageFor tls conf place None it a b = (it.place ≡ place) × AnswersFor tls conf place it.found a b
+ImageFor tls conf place (Some text) it a b = (names : List Reference) × StandsFor conf text (Ok names) × Within (λ x y. AreNamesTried tls conf names x y (Ok it)) a b
+
+record IsImage (tls : Option Bool) (conf : Settings) (place : Place) (text : Option (List ℕ)) (it : FoundImage) (a b : LaneTold) : Type 0 where
+  answered : ImageFor tls conf place text it a b
+  gave : ManifestEnds it.found.from None a b (Ok it.found.fetched)
+  untouched : IsUntouched a b
+  on : GoesOnAt it.found.from a b
+
+-- a place
+as_is : (tls : Option Bool) (conf : Settings) (place : Place) (a b : LaneTold) (it : FoundImage) → found_as tls conf place a b (Ok it) → (it.place ≡ place) × IsFound tls conf place it.found a b
+unfolding found_as given
+as_is tls conf place a b it walk =
+    let one = then_ok walk in
+    let is : it ≡ record { place = place; found = one.1 } = ok_same {E = Refusal} _ _ one.3.1 in
+    let here : IsFound tls conf place one.1 a b = subst (λ y. IsFound tls conf place one.1 a y) (sym one.3.0) (found_is tls conf place a one.0 one.1 one.2) in
+    (ap (λ (v : FoundImage). v.place) is, subst (λ (v : FoundImage). IsFound tls conf place v.found a b) (sym is) here)
+
+-- names
+record IsOfNames (tls : Option Bool) (conf : Settings) (names : List Reference) (it : FoundImage) (a b : LaneTold) : Type 0 where
+  tried : Within (λ x y. AreNamesTried tls conf names x y (Ok it)) a b
+  gave : ManifestEnds it.found.from None a b (Ok it.found.fetched)
+  untouched : IsUntouched a b
+  on : GoesOnAt it.found.from a b
+
+by_names_ok : (x : Result FoundImage (List Attempt)) (it : FoundImage) → Ok it ≡ by_names x → x ≡ Ok it
+by_names_ok (Ok image) it is = ap Ok (sym (ok_same {E = Refusal} it image is))
+by_names_ok (Err attempts) it is = let no : ◌≡◌ {A = Result FoundImage Refusal} (Ok it) (Err (refusal.NoSource attempts)) = is in cc
+
+several_is : (tls : Option Bool) (conf : Settings) (names : List Reference) (a b : LaneTold) (it : FoundImage) → reading (trying_names tls conf names) a b (Ok it) → IsOfNames tls conf names it a b
+unfolding trying_names
+several_is tls conf names a b it walk =
+    let here = walk.0 in
+    let tried : AreNamesTried tls conf names a b (Ok it) = subst (AreNamesTried tls conf names a b) (by_names_ok here.0 it here.2) here.1 in
+    let g = names_gave tls conf names it a b tried in
+    record { tried = within_now (λ x y. AreNamesTried tls conf names x y (Ok it)) a b tried; gave = given_manifest it.found a b g; untouched = walk.1; on = subst (λ s. GoesOnAt s a b) (sym g.from) g.later }
+
+one_is : (tls : Option Bool) (conf : Settings) (r : Reference) (a b : LaneTold) (it : FoundImage) → found_as tls conf (Docker r) a b (Ok it) → IsOfNames tls conf (r ∷ []) it a b
+one_is tls conf r a b it walk =
+    let p = as_is tls conf (Docker r) a b it walk in
+    let sources = p.1.answered in
+    let same : it ≡ as_named r it.found = ap (λ (q : Place). record { place = q; found = it.found }) p.0 in
+    record {
+      tried = within_as (λ x y. AreTried tls sources.0 x y (Ok it.found)) (λ x y. AreNamesTried tls conf (r ∷ []) x y (Ok it)) (λ x y tried. inl (it.found, (Ok sources.0, sources.1, tried), ap Ok same)) a b sources.2;
+      gave = p.1.gave;
+      untouched = p.1.untouched;
+      on = p.1.on;
+    }
+
+names_are : (tls : Option Bool) (conf : Settings) (names : List Reference) (a b : LaneTold) (it : FoundImage) → at_names tls conf names a b (Ok it) → IsOfNames tls conf names it a b
+unfolding at_names
+names_are tls conf [] a b it walk = several_is tls conf [] a b it walk
+names_are tls conf (r ∷ []) a b it walk = one_is tls conf r a b it walk
+names_are tls conf (r ∷ other ∷ more) a b it walk = several_is tls conf (r ∷ other ∷ more) a b it walk
+
+-- a short name
+names_ok : (text : List ℕ) (x : Result (List Reference) ShortFault) (names : List Reference) → Ok names ≡ by_expansion text x → x ≡ Ok names
+names_ok text (Ok rs) names is = ap Ok (sym (ok_same {E = Refusal} names rs is))
+names_ok text (Err (short.Ambiguous count)) names is = let no : ◌≡◌ {A = Result (List Reference) Refusal} (Ok names) (Err (refusal.ShortName text count)) = is in cc
+names_ok text (Err short.NoRegistry) names is = let no : ◌≡◌ {A = Result (List Reference) Refusal} (Ok names) (Err (refusal.ShortName text 0)) = is in cc
+names_ok text (Err (short.Ref joined fault)) names is = let no : ◌≡◌ {A = Result (List Reference) Refusal} (Ok names) (Err (refusal.BadReference joined fault)) = is in cc
+names_ok text (Err short.Memory) names is = let no : ◌≡◌ {A = Result (List Reference) Refusal} (Ok names) (Err refusal.Memory) = is in cc
+
+short_is : (tls : Option Bool) (conf : Settings) (place : Place) (text : List ℕ) (a b : LaneTold) (it : FoundImage) → found_short tls conf text a b (Ok it) → IsImage tls conf place (Some text) it a b
+unfolding found_short given
+short_is tls conf place text a b it walk =
+    let one = then_ok walk in
+    let stand = says_expanded conf text (Ok one.1) (names_ok text (expand conf text) one.1 one.2.1) in
+    let of : IsOfNames tls conf one.1 it a b = subst (λ x. IsOfNames tls conf one.1 it x b) one.2.0 (names_are tls conf one.1 one.0 b it one.3) in
+    record { answered = (one.1, stand, of.tried); gave = of.gave; untouched = of.untouched; on = of.on }
+
+image_is : (tls : Option Bool) (conf : Settings) (place : Place) (text : Option (List ℕ)) (a b : LaneTold) (it : FoundImage) → found_by tls conf place text a b (Ok it) → IsImage tls conf place text it a b
+image_is tls conf place None a b it walk = let p = as_is tls conf place a b it walk in record { answered = (p.0, p.1.answered); gave = p.1.gave; untouched = p.1.untouched; on = p.1.on }
+image_is tls conf place (Some text) a b it walk = short_is tls conf place text a b it walk
 
 -- the source that answered for a reference is a registry
 from_registry : (tls : Option Bool) (sources : List Location) (it : Found) (a b x y : LaneTold) → AreTried tls sources a b (Ok it) → GoesOnAt it.from x y → IsLater x y
@@ -120,6 +208,12 @@ answers_on : (tls : Option Bool) (conf : Settings) (place : Place) (it : Found) 
 answers_on tls conf (Dir path) it a b c is on = is
 answers_on tls conf (Docker r) it a b c is on = (is.0, is.1, within_later (λ x y. AreTried tls is.0 x y (Ok it)) a b c is.2 (from_registry tls is.0 it is.2.first is.2.last b c is.2.is on))
 answers_on tls conf (Oci path name) it a b c is on = is
+
+image_on : (tls : Option Bool) (conf : Settings) (place : Place) (text : Option (List ℕ)) (it : FoundImage) (a b c : LaneTold) → ImageFor tls conf place text it a b → GoesOnAt it.found.from b c → ImageFor tls conf place text it a c
+image_on tls conf place None it a b c is on = (is.0, answers_on tls conf place it.found a b c is.1 on)
+image_on tls conf place (Some text) it a b c is on =
+    let g = names_gave tls conf is.0 it is.2.first is.2.last is.2.is in
+    (is.0, is.1, within_later (λ x y. AreNamesTried tls conf is.0 x y (Ok it)) a b c is.2 (subst (λ s. GoesOnAt s b c) g.from on))
 
 pub answers_later : (tls : Option Bool) (conf : Settings) (place : Place) (it : Found) (a b c : LaneTold) → AnswersFor tls conf place it a b → IsLater b c → AnswersFor tls conf place it a c
 answers_later tls conf (Dir path) it a b c is later = is
@@ -161,11 +255,10 @@ unfolding SignaturesEnd
 signatures_earlier (source.Folder path) part a b c r same on ends = subst (λ (x : Option Tree). IfSome x (λ t. r ≡ by_folder path (signatures_in (numbered t path (prefix_of part))))) same.files ends
 signatures_earlier (source.Registry reference) part a b c r same on ends = (ends.0, later_then a b c on ends.1)
 
--- the source answered for the plan's place, it gave this manifest and these signatures, and they are the image's
+-- the source answered for the image as it is named, it gave this manifest and these signatures, and they are the image's
 pub record IsTaken (policy : PolicyLists) (conf : Settings) (plan : CopyPlan) (from : Source) (image : Admission) (fetched : Fetched) (a b : LaneTold) : Type 0 where
-  pub answered : AnswersFor plan.src_tls conf plan.source (record { from = from; fetched = fetched }) a b
+  pub answered : ImageFor plan.src_tls conf plan.source plan.short (record { place = image.place; found = record { from = from; fetched = fetched } }) a b
   pub under : image.policy ≡ policy
-  pub named : image.place ≡ plan.source
   pub same : image.manifest ≡ fetched.bytes
   pub gave : ManifestEnds from None a b (Ok fetched)
   pub signed : SignaturesEnd from None a b (Ok image.signatures)
@@ -178,34 +271,34 @@ taken_is policy conf plan a b it walk =
     let image = then_ok kind.3 in
     let signatures = then_ok image.3 in
     let last = then_ok signatures.3 in
-    let source = found_is plan.src_tls conf plan.source a one.0 one.1 one.2 in
-    let of_it = admitted_is policy plan.source one.1.fetched kind.1 image.1 signatures.1 last.1 last.2.1 in
-    let is : it ≡ record { from = one.1.from; image = last.1 } = ok_same {E = Refusal} _ _ last.3.1 in
+    let source = image_is plan.src_tls conf plan.source plan.short a one.0 one.1 one.2 in
+    let of_it = admitted_is policy one.1.place one.1.found.fetched kind.1 image.1 signatures.1 last.1 last.2.1 in
+    let is : it ≡ record { from = one.1.found.from; image = last.1 } = ok_same {E = Refusal} _ _ last.3.1 in
     let start : image.0 ≡ one.0 = image.2.0 ∙ kind.2.0 in
     let stop : b ≡ signatures.0 = last.3.0 ∙ last.2.0 in
-    let read : SignaturesEnd one.1.from None one.0 b (Ok last.1.signatures) =
-    subst (λ s. SignaturesEnd one.1.from None one.0 b (Ok s)) (sym of_it.signed)
-    (subst (λ x. SignaturesEnd one.1.from None x b (Ok signatures.1)) start (subst (λ y. SignaturesEnd one.1.from None image.0 y (Ok signatures.1)) (sym stop) signatures.2.0)) in
-    let behind : GoesOnAt one.1.from one.0 b = signatures_on one.1.from one.0 b (Ok last.1.signatures) read in (
-      one.1.fetched,
+    let read : SignaturesEnd one.1.found.from None one.0 b (Ok last.1.signatures) =
+    subst (λ s. SignaturesEnd one.1.found.from None one.0 b (Ok s)) (sym of_it.signed)
+    (subst (λ x. SignaturesEnd one.1.found.from None x b (Ok signatures.1)) start (subst (λ y. SignaturesEnd one.1.found.from None image.0 y (Ok signatures.1)) (sym stop) signatures.2.0)) in
+    let behind : GoesOnAt one.1.found.from one.0 b = signatures_on one.1.found.from one.0 b (Ok last.1.signatures) read in (
+      one.1.found.fetched,
       record {
-        answered = subst (λ (v : Taken). AnswersFor plan.src_tls conf plan.source (record { from = v.from; fetched = one.1.fetched }) a b) (sym is) (answers_on plan.src_tls conf plan.source one.1 a one.0 b source.answered behind);
+        answered = subst (λ (v : Taken). ImageFor plan.src_tls conf plan.source plan.short (record { place = v.image.place; found = record { from = v.from; fetched = one.1.found.fetched } }) a b) (sym is)
+            (subst (λ (p : Place). ImageFor plan.src_tls conf plan.source plan.short (record { place = p; found = one.1.found }) a b) (sym of_it.named) (image_on plan.src_tls conf plan.source plan.short one.1 a one.0 b source.answered behind));
         under = ap (λ (v : Taken). v.image.policy) is ∙ of_it.under;
-        named = ap (λ (v : Taken). v.image.place) is ∙ of_it.named;
         same = ap (λ (v : Taken). v.image.manifest) is ∙ of_it.same;
-        gave = subst (λ (v : Taken). ManifestEnds v.from None a b (Ok one.1.fetched)) (sym is) (manifest_on one.1.from a one.0 b (Ok one.1.fetched) source.gave behind);
-        signed = subst (λ (v : Taken). SignaturesEnd v.from None a b (Ok v.image.signatures)) (sym is) (signatures_earlier one.1.from None a one.0 b (Ok last.1.signatures) source.untouched source.on read);
+        gave = subst (λ (v : Taken). ManifestEnds v.from None a b (Ok one.1.found.fetched)) (sym is) (manifest_on one.1.found.from a one.0 b (Ok one.1.found.fetched) source.gave behind);
+        signed = subst (λ (v : Taken). SignaturesEnd v.from None a b (Ok v.image.signatures)) (sym is) (signatures_earlier one.1.found.from None a one.0 b (Ok last.1.signatures) source.untouched source.on read);
       },
     )
 
 -- ---- the same on the first lane of all
 
-answered_on : (tls : Option Bool) (conf : Settings) (place : Place) (it : Found) (a b : LaneTold) (x y : List LaneTold) → AnswersFor tls conf place it a b → Answered tls conf place (seen (a ∷ x) None 0) (seen (b ∷ y) None 0) it
+answered_on : (tls : Option Bool) (conf : Settings) (place : Place) (it : Found) (a b : LaneTold) (x y : List LaneTold) → AnswersFor tls conf place it a b → AnsweredAt tls conf place (seen (a ∷ x) None 0) (seen (b ∷ y) None 0) it
 answered_on tls conf (Dir path) it a b x y is = is
 answered_on tls conf (Docker r) it a b x y is = record { sources = is.0; has = is.1; tried = is.2 }
 answered_on tls conf (Oci path name) it a b x y is = is
 
-answered_still : (tls : Option Bool) (conf : Settings) (place : Place) (it : Found) (x y z : List LaneTold) → OnFirst IsLater y z → Answered tls conf place (seen x None 0) (seen y None 0) it → Answered tls conf place (seen x None 0) (seen z None 0) it
+answered_still : (tls : Option Bool) (conf : Settings) (place : Place) (it : Found) (x y z : List LaneTold) → OnFirst IsLater y z → AnsweredAt tls conf place (seen x None 0) (seen y None 0) it → AnsweredAt tls conf place (seen x None 0) (seen z None 0) it
 answered_still tls conf (Dir path) it x y z later is = is
 answered_still tls conf (Docker r) it x y z later is = record {
   sources = is.sources;
@@ -214,11 +307,22 @@ answered_still tls conf (Docker r) it x y z later is = record {
 }
 answered_still tls conf (Oci path name) it x y z later is = is
 
+image_answered : (tls : Option Bool) (conf : Settings) (place : Place) (text : Option (List ℕ)) (it : FoundImage) (a b : LaneTold) (x y : List LaneTold) → ImageFor tls conf place text it a b → Answered tls conf place text (seen (a ∷ x) None 0) (seen (b ∷ y) None 0) it
+image_answered tls conf place None it a b x y is = (is.0, answered_on tls conf place it.found a b x y is.1)
+image_answered tls conf place (Some text) it a b x y is = record { names = is.0; stand = is.1; tried = is.2 }
+
+image_still : (tls : Option Bool) (conf : Settings) (place : Place) (text : Option (List ℕ)) (it : FoundImage) (x y z : List LaneTold) → OnFirst IsLater y z → Answered tls conf place text (seen x None 0) (seen y None 0) it → Answered tls conf place text (seen x None 0) (seen z None 0) it
+image_still tls conf place None it x y z later is = (is.0, answered_still tls conf place it.found x y z later is.1)
+image_still tls conf place (Some text) it x y z later is = record {
+  names = is.names;
+  stand = is.stand;
+  tried = (let R : LaneTold → LaneTold → Type 0 = λ a b. AreNamesTried tls conf is.names a b (Ok it) in first_then (Within R) IsLater (Within R) (within_later R) x y z is.tried later);
+}
+
 pub record HasTaken (policy : PolicyLists) (conf : Settings) (plan : CopyPlan) (from : Source) (image : Admission) (x y : List LaneTold) : Type 0 where
   pub fetched : Fetched
-  pub answered : Answered plan.src_tls conf plan.source (seen x None 0) (seen y None 0) (record { from = from; fetched = fetched })
+  pub answered : Answered plan.src_tls conf plan.source plan.short (seen x None 0) (seen y None 0) (record { place = image.place; found = record { from = from; fetched = fetched } })
   pub under : image.policy ≡ policy
-  pub named : image.place ≡ plan.source
   pub same : image.manifest ≡ fetched.bytes
   pub gave : OnFirst (λ a b. ManifestEnds from None a b (Ok fetched)) x y
   pub signed : OnFirst (λ a b. SignaturesEnd from None a b (Ok image.signatures)) x y
@@ -229,15 +333,14 @@ taken_on policy conf plan [] y it some ends = absurd (omega arith)
 taken_on policy conf plan (a ∷ x) [] it some ends = absurd ends.ends.0
 taken_on policy conf plan (a ∷ x) (b ∷ y) it some ends =
     let t = taken_is policy conf plan a b it ends.ends.0.ends in
-    record { fetched = t.0; answered = answered_on plan.src_tls conf plan.source _ a b x y t.1.answered; under = t.1.under; named = t.1.named; same = t.1.same; gave = t.1.gave; signed = t.1.signed }
+    record { fetched = t.0; answered = image_answered plan.src_tls conf plan.source plan.short _ a b x y t.1.answered; under = t.1.under; same = t.1.same; gave = t.1.gave; signed = t.1.signed }
 
 -- it is an image of the plan, however the lanes went on
 pub of_plan : (policy : PolicyLists) (conf : Settings) (plan : CopyPlan) (from : Source) (image : Admission) (x y z : List LaneTold) → HasTaken policy conf plan from image x y → IsAdmitted image → OnEach (λ place a b. IsLater a b) y z → IsOfPlan policy conf plan (seen x None 0) (seen z None 0) from image
 of_plan policy conf plan from image x y z taken admitted later = record {
   under = taken.under;
-  as_named = taken.named;
   fetched = taken.fetched;
-  answered = answered_still plan.src_tls conf plan.source _ x y z (first_of (λ place a b. IsLater a b) y z later) taken.answered;
+  answered = image_still plan.src_tls conf plan.source plan.short _ x y z (first_of (λ place a b. IsLater a b) y z later) taken.answered;
   gave = first_then (λ a b. ManifestEnds from None a b (Ok taken.fetched)) IsLater (λ a b. ManifestEnds from None a b (Ok taken.fetched)) (λ a b c m l. manifest_later from None a b c (Ok taken.fetched) m l) x y z taken.gave (first_of (λ place a b. IsLater a b) y z later);
   same = taken.same;
   admitted = admitted;
@@ -270,10 +373,20 @@ first_from tls sources it [] y some on = absurd (omega arith)
 first_from tls sources it (a ∷ x) [] some on = absurd on
 first_from tls sources it (a ∷ x) (b ∷ y) some on = let g = tried_gave tls sources it on.first on.last on.is in (g.reference, g.from)
 
+-- nor is one that answered for a name
+first_named : (tls : Option Bool) (conf : Settings) (names : List Reference) (it : FoundImage) (x y : List LaneTold) → 0 < length x → OnFirst (Within (λ a b. AreNamesTried tls conf names a b (Ok it))) x y → (r : Reference) × (it.found.from ≡ source.Registry r)
+first_named tls conf names it [] y some on = absurd (omega arith)
+first_named tls conf names it (a ∷ x) [] some on = absurd on
+first_named tls conf names it (a ∷ x) (b ∷ y) some on = let g = names_gave tls conf names it on.first on.last on.is in (g.reference, g.from)
+
 pub apart_of : (policy : PolicyLists) (conf : Settings) (plan : CopyPlan) (from : Source) (image : Admission) (to : Dest) (x y : List LaneTold) → 0 < length x → IsBetweenPlaces plan → HasTaken policy conf plan from image x y → GoesTo plan.dest to → AreApart from to
-apart_of policy conf plan from image to x y some between taken goes = by plan.source taken.answered between
+apart_of policy conf plan from image to x y some between taken goes = by_short plan.short taken.answered
   where
-    by : (s : Place) → Answered plan.src_tls conf s (seen x None 0) (seen y None 0) (record { from = from; fetched = taken.fetched }) → ((path : List ℕ) → s ≡ Dir path → plan.dest ≢ Dir path) → AreApart from to
+    by : (s : Place) → AnsweredAt plan.src_tls conf s (seen x None 0) (seen y None 0) (record { from = from; fetched = taken.fetched }) → ((path : List ℕ) → s ≡ Dir path → plan.dest ≢ Dir path) → AreApart from to
     by (Dir path) is apart = folders_apart from path to plan.dest is (apart path refl) goes
     by (Docker r) is apart = let f = first_from plan.src_tls is.sources _ x y some is.tried in registry_apart from f.0 to f.1
     by (Oci path name) is apart = absurd is
+
+    by_short : (text : Option (List ℕ)) → Answered plan.src_tls conf plan.source text (seen x None 0) (seen y None 0) (record { place = image.place; found = record { from = from; fetched = taken.fetched } }) → AreApart from to
+    by_short None is = by plan.source is.1 between
+    by_short (Some text) is = let f = first_named plan.src_tls conf is.names _ x y some is.tried in registry_apart from f.0 to f.1

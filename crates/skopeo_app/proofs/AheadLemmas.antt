@@ -1,11 +1,12 @@
 -- A refusal of the source, the gate or the destination comes before anything is touched.
-use Rattle.std.proofs.Common.{◌≡◌, ◌∙◌, ◌<◌, Bool, true, false, ℕ, List, [], ◌∷◌, Option, None, Result, Ok, Err, length, inl, inr, refl, sym, subst, arith}
+use Rattle.std.proofs.Common.{◌≡◌, ◌∙◌, ◌<◌, Bool, true, false, ℕ, List, [], ◌∷◌, Option, Some, None, Result, Ok, Err, length, inl, inr, refl, sym, subst, arith}
 use Rattle.std.specs.Bool.{⊤}
 use Rattle.skopeo_outside.specs.LaneTold.{LaneTold}
 use Rattle.skopeo_outside.specs.LaneLaws.{each_then}
 use Rattle.skopeo_outside.specs.Seen.{Seen, OnFirst, OnEach, KeepsFrom}
 use Rattle.skopeo_outside.specs.Steps.{Then, goes, stops, ◌>>=◌, given, Ends, EndsBy}
 use Rattle.skopeo_outside.specs.OnLanes.{LaneStep, SeenStep, on_first}
+use Rattle.image_ref.specs.Reference.{Reference}
 use Rattle.image_ref.specs.declared.place.Place.{Place}
 use Rattle.image_ref.specs.declared.place.Place.TheVariants.{Docker, Dir, Oci}
 use Rattle.digest_reader.specs.declared.job.Job.{Job}
@@ -23,7 +24,8 @@ use Rattle.transports.specs.declared.refusal.Refusal.{Refusal}
 use Rattle.transports.specs.declared.refusal.Refusal.TheVariants as refusal
 use Rattle.transports.specs.Refusals as of
 use Rattle.transports.specs.Places.{dest_at}
-use Rattle.transports.specs.Found.{by_sources, trying, in_folder, at_registries, found_for, found}
+use Rattle.transports.specs.Found.{by_sources, trying, in_folder, at_registries, found_for, found_as, by_expansion, trying_names, at_names, found_short, found_by, found}
+use Rattle.registries_conf.specs.Expand.{expand}
 use Rattle.transports.specs.Courses.{lane_course, call_course}
 use Rattle.transports.specs.Given.{ManifestEnds, SignaturesEnd}
 use Rattle.transports.specs.Has.{IsUntouched}
@@ -58,24 +60,39 @@ rests_reading : {A : Type 0} (step : LaneStep Refusal A) → Rests (reading step
 rests_reading step a b r end = end.1
 
 rests_for : (tls : Option Bool) (conf : Settings) (place : Place) → Rests (found_for tls conf place)
-unfolding in_folder at_registries
+unfolding found_for in_folder at_registries
 rests_for tls conf (Dir path) = rests_then _ _ (rests_reading (ManifestEnds (source.Folder path) None)) (λ fetched. rests_given _)
 rests_for tls conf (Docker r) = rests_then _ _ (rests_given (by_sources (sources_of conf r))) (λ sources. rests_reading (trying tls sources))
 rests_for tls conf (Oci path name) = rests_given _
 
+rests_as : (tls : Option Bool) (conf : Settings) (place : Place) → Rests (found_as tls conf place)
+unfolding found_as
+rests_as tls conf place = rests_then _ _ (rests_for tls conf place) (λ it. rests_given (Ok (record { place = place; found = it })))
+
+rests_names : (tls : Option Bool) (conf : Settings) (names : List Reference) → Rests (at_names tls conf names)
+unfolding at_names
+rests_names tls conf [] = rests_reading (trying_names tls conf [])
+rests_names tls conf (r ∷ []) = rests_as tls conf (Docker r)
+rests_names tls conf (r ∷ other ∷ more) = rests_reading (trying_names tls conf (r ∷ other ∷ more))
+
+rests_by : (tls : Option Bool) (conf : Settings) (place : Place) (text : Option (List ℕ)) → Rests (found_by tls conf place text)
+unfolding found_short
+rests_by tls conf place None = rests_as tls conf place
+rests_by tls conf place (Some text) = rests_then _ _ (rests_given (by_expansion text (expand conf text))) (λ names. rests_names tls conf names)
+
 rests_found : (plan : CopyPlan) (conf : Settings) → Rests (found plan conf)
 unfolding found
-rests_found plan conf = rests_for plan.src_tls conf plan.source
+rests_found plan conf = rests_by plan.src_tls conf plan.source plan.short
 
 rests_admission : (plan : CopyPlan) (conf : Settings) (policy : PolicyLists) → Rests (admission plan conf policy)
 unfolding admission
 rests_admission plan conf policy =
     rests_then _ _ (rests_found plan conf)
-    (λ it. rests_then _ _ (rests_given (kind_in it.fetched))
-    (λ kind. rests_then _ _ (rests_given (image_in kind it.fetched))
-    (λ image. rests_then _ _ (rests_reading (SignaturesEnd it.from None))
-    (λ signatures. rests_then _ _ (rests_given (admitted_of policy plan.source it.fetched kind image signatures))
-    (λ admitted. rests_given (Ok (record { from = it.from; image = admitted })))))))
+    (λ it. rests_then _ _ (rests_given (kind_in it.found.fetched))
+    (λ kind. rests_then _ _ (rests_given (image_in kind it.found.fetched))
+    (λ image. rests_then _ _ (rests_reading (SignaturesEnd it.found.from None))
+    (λ signatures. rests_then _ _ (rests_given (admitted_of policy it.place it.found.fetched kind image signatures))
+    (λ admitted. rests_given (Ok (record { from = it.found.from; image = admitted })))))))
 
 -- ---- the first lane alone
 
@@ -111,6 +128,8 @@ ahead_free (refusal.NotAnImageDir p) ahead = refl
 ahead_free (refusal.TooLarge w n) ahead = refl
 ahead_free (refusal.ManifestInvalid m) ahead = refl
 ahead_free (refusal.Rejected s p w) ahead = refl
+ahead_free (refusal.BadReference text fault) ahead = refl
+ahead_free (refusal.ShortName text count) ahead = refl
 ahead_free (refusal.Blocked n) ahead = refl
 ahead_free (refusal.NoSource attempts) ahead = refl
 ahead_free refusal.Memory ahead = let no : false ≡ true = ahead in cc
@@ -124,6 +143,8 @@ ahead_memory (refusal.NotAnImageDir p) ahead = refl
 ahead_memory (refusal.TooLarge w n) ahead = refl
 ahead_memory (refusal.ManifestInvalid m) ahead = refl
 ahead_memory (refusal.Rejected s p w) ahead = refl
+ahead_memory (refusal.BadReference text fault) ahead = refl
+ahead_memory (refusal.ShortName text count) ahead = refl
 ahead_memory (refusal.Blocked n) ahead = refl
 ahead_memory (refusal.NoSource attempts) ahead = refl
 ahead_memory refusal.Memory ahead = let no : false ≡ true = ahead in cc

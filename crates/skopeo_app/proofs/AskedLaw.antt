@@ -32,7 +32,7 @@ use Rattle.skopeo_app.specs.declared.refusal.Unbuilt.TheVariants as unbuilt
 use Rattle.skopeo_app.specs.declared.task.CopyTask.{CopyTask}
 use Rattle.skopeo_app.specs.declared.task.Task.{Task}
 use Rattle.skopeo_app.specs.declared.task.Task.TheVariants.{Page, Copy}
-use Rattle.skopeo_app.specs.Plan.{◌>>=◌, is_folder, folder_in, or_reference, place_at, are_same, apart, lanes_for, plan_of}
+use Rattle.skopeo_app.specs.Plan.{◌>>=◌, is_folder, folder_in, or_reference, place_at, are_same, apart, lanes_for, short_for, plan_of}
 use Rattle.skopeo_app.specs.Task.{asks_more, are_built, built, choice_of, conf_choice_of, copy_of, unbuilt_at, after_name, unbuilt_sync, task_in, by_words, task_of}
 use Rattle.skopeo_app.specs.Asked.{AsksCopy}
 use Rattle.skopeo_app.proofs.TaskLemmas.{sound}
@@ -62,11 +62,11 @@ apart_read plan p e = by (are_same plan) refl e
     by true is same = absurd (refuted (SamePlace (folder_in plan.source)) p same)
     by false is same = (is, let x : plan ≡ p = cc same in x)
 
-built_read : (common : Common) (passing : Passing) (short_names : Bool) (plan : CopyPlan) (done : ⊤) → built common passing short_names plan ≡ Ok done → (asks_more common passing short_names ≡ false) × (are_built plan ≡ true)
-built_read common passing short_names plan done e = by (asks_more common passing short_names) (are_built plan) refl refl e
+built_read : (common : Common) (passing : Passing) (plan : CopyPlan) (done : ⊤) → built common passing plan ≡ Ok done → (asks_more common passing ≡ false) × (are_built plan ≡ true)
+built_read common passing plan done e = by (asks_more common passing) (are_built plan) refl refl e
   where
-    by : (m b : Bool) → asks_more common passing short_names ≡ m → are_built plan ≡ b → (if m then Err (NotBuilt unbuilt.Option) else if b then Ok tt else Err (NotBuilt unbuilt.Place)) ≡ Ok done
-        → (asks_more common passing short_names ≡ false) × (are_built plan ≡ true)
+    by : (m b : Bool) → asks_more common passing ≡ m → are_built plan ≡ b → (if m then Err (NotBuilt unbuilt.Option) else if b then Ok tt else Err (NotBuilt unbuilt.Place)) ≡ Ok done
+        → (asks_more common passing ≡ false) × (are_built plan ≡ true)
     by true b more is same = absurd (refuted (NotBuilt unbuilt.Option) done same)
     by false true more is same = (more, is)
     by false false more is same = absurd (refuted (NotBuilt unbuilt.Place) done same)
@@ -76,11 +76,11 @@ copy_read : (words : List (List ℕ)) (cwd : List ℕ) (common : Common) (passin
 unfolding copy_of plan_of
 copy_read words cwd common passing quiet short_names source dest task is e =
     let done : CopyPlan → Result Task CommandRefusal = λ plan. Ok (Copy (record { policy = choice_of cwd common; conf = conf_choice_of cwd common plan.source; quiet = quiet; plan = plan })) in
-    let planned = bound (plan_of cwd (lanes_for common) passing.src_tls source dest) (λ plan. built common passing short_names plan >>= (λ _. done plan)) (Copy task) e in
+    let planned = bound (plan_of cwd (lanes_for common) passing.src_tls short_names source dest) (λ plan. built common passing plan >>= (λ _. done plan)) (Copy task) e in
     let p = planned.0 in
-    let passed = bound (built common passing short_names p) (λ _. done p) (Copy task) planned.2 in
-    let whole = built_read common passing short_names p passed.0 passed.1 in
-    let placed : Place → Place → CopyPlan = λ from to. record { source = from; dest = to; lanes = lanes_for common; src_tls = passing.src_tls } in
+    let passed = bound (built common passing p) (λ _. done p) (Copy task) planned.2 in
+    let whole = built_read common passing p passed.0 passed.1 in
+    let placed : Place → Place → CopyPlan = λ from to. record { source = from; short = short_for short_names from source; dest = to; lanes = lanes_for common; src_tls = passing.src_tls } in
     let begun = bound (place_at cwd source) (λ from. place_at cwd dest >>= (λ to. apart (placed from to))) p planned.1 in
     let ended = bound (place_at cwd dest) (λ to. apart (placed begun.0 to)) p begun.2 in
     let two = apart_read (placed begun.0 ended.0) p ended.2 in
@@ -95,6 +95,7 @@ copy_read words cwd common passing quiet short_names source dest task is e =
       dest = dest;
       asked = copied_words words common passing quiet short_names source dest ((commands words (command.Copy common passing quiet short_names source dest)).0 is);
       from = place_read cwd source begun.0 begun.1;
+      short = refl;
       to = place_read cwd dest ended.0 ended.1;
       apart = (sound plan common.lanes two.0 refl).places;
       built = subst (λ q. are_built q ≡ true) (sym two.1) whole.1;
@@ -168,32 +169,34 @@ not_same (Dir a) (Dir b) between = by (bytes_eq a b) refl
 apart_is : (plan : CopyPlan) → are_same plan ≡ false → apart plan ≡ Ok plan
 apart_is plan is = ap (λ b. if b then Err (SamePlace (folder_in plan.source)) else Ok plan) is
 
-built_is : (common : Common) (passing : Passing) (short_names : Bool) (plan : CopyPlan) → asks_more common passing short_names ≡ false → are_built plan ≡ true → built common passing short_names plan ≡ Ok tt
-built_is common passing short_names plan more is = rw (more, is) refl
+built_is : (common : Common) (passing : Passing) (plan : CopyPlan) → asks_more common passing ≡ false → are_built plan ≡ true → built common passing plan ≡ Ok tt
+built_is common passing plan more is = rw (more, is) refl
 
 copy_is : (cwd : List ℕ) (common : Common) (passing : Passing) (short_names : Bool) (source dest : List ℕ) (task : CopyTask) → PlaceOf cwd source task.plan.source → PlaceOf cwd dest task.plan.dest → IsBetweenPlaces task.plan → are_built task.plan ≡ true
-    → asks_more common passing short_names ≡ false → task.plan.lanes ≡ lanes_for common → task.plan.src_tls ≡ passing.src_tls → task.policy ≡ choice_of cwd common → task.conf ≡ conf_choice_of cwd common task.plan.source
+    → task.plan.short ≡ short_for short_names task.plan.source source → asks_more common passing ≡ false → task.plan.lanes ≡ lanes_for common → task.plan.src_tls ≡ passing.src_tls → task.policy ≡ choice_of cwd common → task.conf ≡ conf_choice_of cwd common task.plan.source
     → copy_of cwd common passing task.quiet short_names source dest ≡ Ok (Copy task)
 unfolding copy_of plan_of
-copy_is cwd common passing short_names source dest task from to between are plain lanes tls policy conf =
-    let placed : Place → Place → CopyPlan = λ a b. record { source = a; dest = b; lanes = lanes_for common; src_tls = passing.src_tls } in
+copy_is cwd common passing short_names source dest task from to between are short plain lanes tls policy conf =
+    let placed : Place → Place → CopyPlan = λ a b. record { source = a; short = short_for short_names a source; dest = b; lanes = lanes_for common; src_tls = passing.src_tls } in
     let plan_is : placed task.plan.source task.plan.dest ≡ task.plan
-    = ap (λ n. record { source = task.plan.source; dest = task.plan.dest; lanes = n; src_tls = passing.src_tls }) (sym lanes) ∙ ap (λ t. record { source = task.plan.source; dest = task.plan.dest; lanes = task.plan.lanes; src_tls = t }) (sym tls) in
+    = ap (λ s. record { source = task.plan.source; short = s; dest = task.plan.dest; lanes = lanes_for common; src_tls = passing.src_tls }) (sym short)
+    ∙ ap (λ n. record { source = task.plan.source; short = task.plan.short; dest = task.plan.dest; lanes = n; src_tls = passing.src_tls }) (sym lanes)
+    ∙ ap (λ t. record { source = task.plan.source; short = task.plan.short; dest = task.plan.dest; lanes = task.plan.lanes; src_tls = t }) (sym tls) in
     let done : CopyPlan → Result Task CommandRefusal = λ plan. Ok (Copy (record { policy = choice_of cwd common; conf = conf_choice_of cwd common plan.source; quiet = task.quiet; plan = plan })) in
     let task_is : record { policy = choice_of cwd common; conf = conf_choice_of cwd common task.plan.source; quiet = task.quiet; plan = task.plan } ≡ task
     = ap (λ c. record { policy = c; conf = conf_choice_of cwd common task.plan.source; quiet = task.quiet; plan = task.plan }) (sym policy) ∙ ap (λ c. record { policy = task.policy; conf = c; quiet = task.quiet; plan = task.plan }) (sym conf) in
     let end : apart (placed task.plan.source task.plan.dest) ≡ Ok task.plan = apart_is (placed task.plan.source task.plan.dest) (not_same task.plan.source task.plan.dest between) ∙ ap Ok plan_is in
-    let planned : plan_of cwd (lanes_for common) passing.src_tls source dest ≡ Ok task.plan =
+    let planned : plan_of cwd (lanes_for common) passing.src_tls short_names source dest ≡ Ok task.plan =
     bind (place_at cwd source) (λ a. place_at cwd dest >>= (λ b. apart (placed a b))) task.plan.source (Ok task.plan) (place_is cwd source task.plan.source from)
     (bind (place_at cwd dest) (λ b. apart (placed task.plan.source b)) task.plan.dest (Ok task.plan) (place_is cwd dest task.plan.dest to) end) in
-    bind (plan_of cwd (lanes_for common) passing.src_tls source dest) (λ plan. built common passing short_names plan >>= (λ _. done plan)) task.plan (Ok (Copy task)) planned
-    (bind (built common passing short_names task.plan) (λ _. done task.plan) tt (Ok (Copy task)) (built_is common passing short_names task.plan plain are) (ap (λ t. Ok (Copy t)) task_is))
+    bind (plan_of cwd (lanes_for common) passing.src_tls short_names source dest) (λ plan. built common passing plan >>= (λ _. done plan)) task.plan (Ok (Copy task)) planned
+    (bind (built common passing task.plan) (λ _. done task.plan) tt (Ok (Copy task)) (built_is common passing task.plan plain are) (ap (λ t. Ok (Copy t)) task_is))
 
 pub copy_asked : (words : List (List ℕ)) (cwd : List ℕ) (task : CopyTask) → AsksCopy words cwd task → task_of words cwd ≡ Ok (Copy task)
 unfolding task_of task_in
 copy_asked words cwd task a =
     ap (by_words cwd) ((commands words (command.Copy a.common a.passing task.quiet a.short_names a.source a.dest)).1 (words_copied words a.common a.passing task.quiet a.short_names a.source a.dest a.asked))
-    ∙ copy_is cwd a.common a.passing a.short_names a.source a.dest task a.from a.to a.apart a.built a.plain a.lanes a.tls a.policy a.conf
+    ∙ copy_is cwd a.common a.passing a.short_names a.source a.dest task a.from a.to a.apart a.built a.short a.plain a.lanes a.tls a.policy a.conf
 
 -- ---- both ways
 

@@ -42,7 +42,9 @@ use Rattle.transports.specs.declared.found.Found.{Found}
 use Rattle.admission.specs.declared.take.Taken.{Taken}
 use Rattle.admission.specs.Parts.{kind_in, image_in}
 use Rattle.admission.specs.Admission.{Admission, admitted_of}
-use Rattle.transports.specs.Found.{in_folder, found_for, found}
+use Rattle.transports.specs.Found.{in_folder, found_for, found_as, found_by, found}
+use Rattle.transports.specs.declared.found.FoundImage.{FoundImage}
+use Rattle.skopeo_app.specs.Plan.{short_for}
 use Rattle.admission.specs.Walk.{admission}
 use Rattle.copy_jobs.specs.Secured.{JobsEnd, IsLeast, SameBlobs, first_fault}
 use Rattle.copy_jobs.proofs.EndLemmas.{TellsBlobs, TellBlobs, ends_at, done_no_fault, least_is_fault}
@@ -107,15 +109,32 @@ folder_equals tree folder =
     (manifest_of tree folder) (λ u. and_then u (λ fetched. Ok (found_of (source.Folder folder) fetched))) (λ e. refl) (manifest_equals tree folder)
     (λ fetched e. given_as tree (Ok (found_of (source.Folder folder) fetched)) (Ok (found_of (source.Folder folder) fetched)) refl)
 
-found_equals : (tree : Tree) (folder : List ℕ) (plan : CopyPlan) (conf : Settings) → plan.source ≡ Dir folder → Equals tree (found plan conf) (and_then (manifest_of tree folder) (λ fetched. Ok (found_of (source.Folder folder) fetched)))
-unfolding found
-found_equals tree folder plan conf is =
-    subst (λ place. Equals tree (found_for plan.src_tls conf place) (and_then (manifest_of tree folder) (λ fetched. Ok (found_of (source.Folder folder) fetched)))) (sym is) (folder_equals tree folder)
+-- as the image of the folder
+abbrev found_in : List ℕ → Fetched → FoundImage
+found_in folder fetched = record { place = Dir folder; found = found_of (source.Folder folder) fetched }
 
--- the source of what was found
-from_found : (folder : List ℕ) (m : Result Fetched Refusal) (it : Found) → Ok it ≡ and_then m (λ fetched. Ok (found_of (source.Folder folder) fetched)) → it.from ≡ source.Folder folder
-from_found folder (Ok fetched) it e = ap (λ (f : Found). f.from) (ok_same {E = Refusal} it (found_of (source.Folder folder) fetched) e)
-from_found folder (Err d) it e = let no : ◌≡◌ {A = Result Found Refusal} (Ok it) (Err d) = e in cc
+as_equals : (tree : Tree) (folder : List ℕ) (tls : Option Bool) (conf : Settings) → Equals tree (found_as tls conf (Dir folder)) (and_then (manifest_of tree folder) (λ fetched. Ok (found_in folder fetched)))
+unfolding found_as found_for
+as_equals tree folder tls conf =
+    subst (λ w. Equals tree (in_folder folder >>= (λ it. given (Ok (record { place = Dir folder; found = it })))) w) (flat_found (manifest_of tree folder))
+    (equal_then tree (in_folder folder) (λ it. given (Ok (record { place = Dir folder; found = it })))
+    (and_then (manifest_of tree folder) (λ fetched. Ok (found_of (source.Folder folder) fetched))) (λ u. and_then u (λ (it : Found). Ok (record { place = Dir folder; found = it }))) (λ e. refl) (folder_equals tree folder)
+    (λ it e. given_as tree (Ok (record { place = Dir folder; found = it })) (Ok (record { place = Dir folder; found = it })) refl))
+  where
+    flat_found : (m : Result Fetched Refusal) → and_then (and_then m (λ fetched. Ok (found_of (source.Folder folder) fetched))) (λ (it : Found). Ok (record { place = Dir folder; found = it })) ≡ and_then m (λ fetched. Ok (found_in folder fetched))
+    flat_found (Ok fetched) = refl
+    flat_found (Err e) = refl
+
+found_equals : (tree : Tree) (folder : List ℕ) (plan : CopyPlan) (conf : Settings) → plan.source ≡ Dir folder → plan.short ≡ None → Equals tree (found plan conf) (and_then (manifest_of tree folder) (λ fetched. Ok (found_in folder fetched)))
+unfolding found
+found_equals tree folder plan conf is whole =
+    subst (λ text. Equals tree (found_by plan.src_tls conf plan.source text) (and_then (manifest_of tree folder) (λ fetched. Ok (found_in folder fetched)))) (sym whole)
+    (subst (λ place. Equals tree (found_as plan.src_tls conf place) (and_then (manifest_of tree folder) (λ fetched. Ok (found_in folder fetched)))) (sym is) (as_equals tree folder plan.src_tls conf))
+
+-- what was found
+image_found : (folder : List ℕ) (m : Result Fetched Refusal) (it : FoundImage) → Ok it ≡ and_then m (λ fetched. Ok (found_in folder fetched)) → (it.place ≡ Dir folder) × (it.found.from ≡ source.Folder folder)
+image_found folder (Ok fetched) it e = let is = ok_same {E = Refusal} it (found_in folder fetched) e in (ap (λ (f : FoundImage). f.place) is, ap (λ (f : FoundImage). f.found.from) is)
+image_found folder (Err d) it e = let no : ◌≡◌ {A = Result FoundImage Refusal} (Ok it) (Err d) = e in cc
 
 -- the steps behind the manifest
 abbrev signed : Tree → List ℕ → PolicyLists → Fetched → Kind → ImageRead → Result Admission Refusal
@@ -130,43 +149,43 @@ judged tree folder policy fetched = and_then (kind_in fetched) (λ kind. imaged 
 abbrev take_it : List ℕ → Result Admission Refusal → Result Taken Refusal
 take_it folder w = and_then w (λ image. Ok (taken_of (source.Folder folder) image))
 
-admission_equals : (tree : Tree) (folder : List ℕ) (plan : CopyPlan) (conf : Settings) (policy : PolicyLists) → plan.source ≡ Dir folder → Equals tree (admission plan conf policy) (take_it folder (admitted_in tree folder policy))
+admission_equals : (tree : Tree) (folder : List ℕ) (plan : CopyPlan) (conf : Settings) (policy : PolicyLists) → plan.source ≡ Dir folder → plan.short ≡ None → Equals tree (admission plan conf policy) (take_it folder (admitted_in tree folder policy))
 unfolding admission admitted_in
-admission_equals tree folder plan conf policy is a b r end tells =
+admission_equals tree folder plan conf policy is whole a b r end tells =
     let got = walk a b r end tells in
     (got.0 ∙ flatten (manifest_of tree folder), got.1)
   where
-    flatten : (m : Result Fetched Refusal) → take_it folder (and_then (and_then m (λ fetched. Ok (found_of (source.Folder folder) fetched))) (λ (it : Found). judged tree folder policy it.fetched)) ≡ take_it folder (and_then m (λ fetched. judged tree folder policy fetched))
+    flatten : (m : Result Fetched Refusal) → take_it folder (and_then (and_then m (λ fetched. Ok (found_in folder fetched))) (λ (it : FoundImage). judged tree folder policy it.found.fetched)) ≡ take_it folder (and_then m (λ fetched. judged tree folder policy fetched))
     flatten (Ok fetched) = refl
     flatten (Err e) = refl
 
-    last : (it : Found) (kind : Kind) (image : ImageRead) (signatures : List (List ℕ)) → it.from ≡ source.Folder folder
-        → Equals tree (given (admitted_of policy plan.source it.fetched kind image signatures) >>= (λ admitted. given (Ok (taken_of it.from admitted)))) (take_it folder (admitted_of policy (Dir folder) it.fetched kind image signatures))
-    last it kind image signatures from =
-        equal_then tree (given (admitted_of policy plan.source it.fetched kind image signatures)) (λ admitted. given (Ok (taken_of it.from admitted)))
-        (admitted_of policy (Dir folder) it.fetched kind image signatures) (λ u. take_it folder u) (λ e. refl)
-        (given_as tree (admitted_of policy plan.source it.fetched kind image signatures) (admitted_of policy (Dir folder) it.fetched kind image signatures) (ap (λ p. admitted_of policy p it.fetched kind image signatures) is))
-        (λ admitted e. given_as tree (Ok (taken_of it.from admitted)) (Ok (taken_of (source.Folder folder) admitted)) (ap (λ s. Ok (taken_of s admitted)) from))
+    last : (it : FoundImage) (kind : Kind) (image : ImageRead) (signatures : List (List ℕ)) → it.place ≡ Dir folder → it.found.from ≡ source.Folder folder
+        → Equals tree (given (admitted_of policy it.place it.found.fetched kind image signatures) >>= (λ admitted. given (Ok (taken_of it.found.from admitted)))) (take_it folder (admitted_of policy (Dir folder) it.found.fetched kind image signatures))
+    last it kind image signatures named from =
+        equal_then tree (given (admitted_of policy it.place it.found.fetched kind image signatures)) (λ admitted. given (Ok (taken_of it.found.from admitted)))
+        (admitted_of policy (Dir folder) it.found.fetched kind image signatures) (λ u. take_it folder u) (λ e. refl)
+        (given_as tree (admitted_of policy it.place it.found.fetched kind image signatures) (admitted_of policy (Dir folder) it.found.fetched kind image signatures) (ap (λ p. admitted_of policy p it.found.fetched kind image signatures) named))
+        (λ admitted e. given_as tree (Ok (taken_of it.found.from admitted)) (Ok (taken_of (source.Folder folder) admitted)) (ap (λ s. Ok (taken_of s admitted)) from))
 
-    read : (it : Found) → it.from ≡ source.Folder folder → Equals tree (reading (SignaturesEnd it.from None)) (signatures_of tree folder)
+    read : (it : FoundImage) → it.found.from ≡ source.Folder folder → Equals tree (reading (SignaturesEnd it.found.from None)) (signatures_of tree folder)
     read it from = subst (λ s. Equals tree (reading (SignaturesEnd s None)) (signatures_of tree folder)) (sym from) (signatures_equal tree folder)
 
-    rest : (it : Found) → it.from ≡ source.Folder folder → Equals tree (given (kind_in it.fetched) >>= (λ kind. given (image_in kind it.fetched) >>= (λ image. reading (SignaturesEnd it.from None) >>= (λ signatures. given (admitted_of policy plan.source it.fetched kind image signatures) >>= (λ admitted. given (Ok (taken_of it.from admitted)))))))
-        (take_it folder (judged tree folder policy it.fetched))
-    rest it from =
-        equal_then tree (given (kind_in it.fetched)) _ (kind_in it.fetched) (λ u. take_it folder (and_then u (λ kind. imaged tree folder policy it.fetched kind))) (λ e. refl)
-        (given_as tree (kind_in it.fetched) (kind_in it.fetched) refl)
-        (λ kind k. equal_then tree (given (image_in kind it.fetched)) _ (image_in kind it.fetched) (λ u. take_it folder (and_then u (λ image. signed tree folder policy it.fetched kind image))) (λ e. refl)
-        (given_as tree (image_in kind it.fetched) (image_in kind it.fetched) refl)
-        (λ image i. equal_then tree (reading (SignaturesEnd it.from None)) _ (signatures_of tree folder) (λ u. take_it folder (and_then u (λ signatures. admitted_of policy (Dir folder) it.fetched kind image signatures))) (λ e. refl)
+    rest : (it : FoundImage) → it.place ≡ Dir folder → it.found.from ≡ source.Folder folder → Equals tree (given (kind_in it.found.fetched) >>= (λ kind. given (image_in kind it.found.fetched) >>= (λ image. reading (SignaturesEnd it.found.from None) >>= (λ signatures. given (admitted_of policy it.place it.found.fetched kind image signatures) >>= (λ admitted. given (Ok (taken_of it.found.from admitted)))))))
+        (take_it folder (judged tree folder policy it.found.fetched))
+    rest it named from =
+        equal_then tree (given (kind_in it.found.fetched)) _ (kind_in it.found.fetched) (λ u. take_it folder (and_then u (λ kind. imaged tree folder policy it.found.fetched kind))) (λ e. refl)
+        (given_as tree (kind_in it.found.fetched) (kind_in it.found.fetched) refl)
+        (λ kind k. equal_then tree (given (image_in kind it.found.fetched)) _ (image_in kind it.found.fetched) (λ u. take_it folder (and_then u (λ image. signed tree folder policy it.found.fetched kind image))) (λ e. refl)
+        (given_as tree (image_in kind it.found.fetched) (image_in kind it.found.fetched) refl)
+        (λ image i. equal_then tree (reading (SignaturesEnd it.found.from None)) _ (signatures_of tree folder) (λ u. take_it folder (and_then u (λ signatures. admitted_of policy (Dir folder) it.found.fetched kind image signatures))) (λ e. refl)
         (read it from)
-        (λ signatures s. last it kind image signatures from)))
+        (λ signatures s. last it kind image signatures named from)))
 
-    walk : Equals tree (admission plan conf policy) (take_it folder (and_then (and_then (manifest_of tree folder) (λ fetched. Ok (found_of (source.Folder folder) fetched))) (λ (it : Found). judged tree folder policy it.fetched)))
-    walk = equal_then tree (found plan conf) _ (and_then (manifest_of tree folder) (λ fetched. Ok (found_of (source.Folder folder) fetched)))
-        (λ u. take_it folder (and_then u (λ (it : Found). judged tree folder policy it.fetched))) (λ e. refl)
-        (found_equals tree folder plan conf is)
-        (λ it e. rest it (from_found folder (manifest_of tree folder) it e))
+    walk : Equals tree (admission plan conf policy) (take_it folder (and_then (and_then (manifest_of tree folder) (λ fetched. Ok (found_in folder fetched))) (λ (it : FoundImage). judged tree folder policy it.found.fetched)))
+    walk = equal_then tree (found plan conf) _ (and_then (manifest_of tree folder) (λ fetched. Ok (found_in folder fetched)))
+        (λ u. take_it folder (and_then u (λ (it : FoundImage). judged tree folder policy it.found.fetched))) (λ e. refl)
+        (found_equals tree folder plan conf is whole)
+        (λ it e. let f = image_found folder (manifest_of tree folder) it e in rest it f.0 f.1)
 
 -- the source of what was admitted
 from_taken : (folder : List ℕ) (m : Result Admission Refusal) (it : Taken) → Ok it ≡ take_it folder m → it.from ≡ source.Folder folder
@@ -187,6 +206,8 @@ free_comes (image.TooLarge q n) w a b calm is shows = let no : false ≡ true = 
 free_comes (image.ManifestInvalid m) w a b calm is shows = let no : false ≡ true = is in cc
 free_comes (image.Rejected s p y) w a b calm is shows = let no : false ≡ true = is in cc
 free_comes (image.Blocked n) w a b calm is shows = let no : false ≡ true = is in cc
+free_comes (image.BadReference text fault) w a b calm is shows = let no : false ≡ true = is in cc
+free_comes (image.ShortName text count) w a b calm is shows = let no : false ≡ true = is in cc
 free_comes (image.NoSource attempts) w a b calm is shows = let no : false ≡ true = is in cc
 
 lane_comes : {A : Type 0} (step : LaneStep Refusal A) (w : Result A Refusal) (a b : LaneTold) (r : Result A Refusal) → IsCalm a b → Ends lane_course step a b r → ((s : Result A Refusal) → step a b s → s ≡ w) → Comes of.is_memory r w
@@ -438,10 +459,10 @@ module _ (tree : Tree) (folder target : List ℕ) (apart : folder ≢ target) (t
   abbrev copied : PolicyLists → Result Copied Refusal
   copied policy = and_then (admitted_in tree folder policy) (λ it. placed_in tree folder taken it)
 
-  image_comes : (plan : CopyPlan) (conf : Settings) (policy : PolicyLists) → plan.source ≡ Dir folder → plan.dest ≡ Dir target → (x y : Seen) (r : Result Copied Refusal) → image_end plan conf policy x y r → Begins folder tree x → Calm x y
+  image_comes : (plan : CopyPlan) (conf : Settings) (policy : PolicyLists) → plan.source ≡ Dir folder → plan.short ≡ None → plan.dest ≡ Dir target → (x y : Seen) (r : Result Copied Refusal) → image_end plan conf policy x y r → Begins folder tree x → Calm x y
       → Comes of.is_memory r (copy_in tree folder taken policy)
   unfolding image_end copy_in
-  image_comes plan conf policy from to x y r end begins calm =
+  image_comes plan conf policy from whole to x y r end begins calm =
       comes_then of.is_memory (given (dest_at plan.dest)) (λ d. on_first lane_course (admission plan conf policy) >>= (λ it. placing it.from d it.image)) (Ok (dest.Folder target)) (λ u. and_then u (λ (d : Dest). copied policy))
       (Begins folder tree) (Begins folder tree) (λ e. refl) (goes_given (dest_at plan.dest))
       (λ d. goes_then (on_first lane_course (admission plan conf policy)) (λ it. placing it.from d it.image) (goes_on (admission plan conf policy)) (λ it. goes_placing it.from d it.image))
@@ -451,7 +472,7 @@ module _ (tree : Tree) (folder target : List ℕ) (apart : folder ≢ target) (t
       x y r end begins calm
     where
       equals : Equals tree (admission plan conf policy) (take_it folder (admitted_in tree folder policy))
-      equals = admission_equals tree folder plan conf policy from
+      equals = admission_equals tree folder plan conf policy from whole
 
       rest : (m b : Seen) (s : Result Copied Refusal) → (on_first lane_course (admission plan conf policy) >>= (λ it. placing it.from (dest.Folder target) it.image)) m b s → Begins folder tree m → Calm m b → Comes of.is_memory s (copied policy)
       rest m b s end i c =
@@ -533,7 +554,7 @@ seen_comes {A} step w x y (Err e) end f = by (is_memory e) refl end.ends
     by true is shown = inl is
     by false is one = f one
 
-module _ (tree : Tree) (home cwd : List ℕ) (task : CopyTask) (folder target : List ℕ) (apart : folder ≢ target) (from : task.plan.source ≡ Dir folder) (to : task.plan.dest ≡ Dir target) (unread : task.conf ≡ chosen.Unread) (taken : Result ⊤ Refusal) (judges : Judges tree target taken) where
+module _ (tree : Tree) (home cwd : List ℕ) (task : CopyTask) (folder target : List ℕ) (apart : folder ≢ target) (from : task.plan.source ≡ Dir folder) (whole : task.plan.short ≡ None) (to : task.plan.dest ≡ Dir target) (unread : task.conf ≡ chosen.Unread) (taken : Result ⊤ Refusal) (judges : Judges tree target taken) where
   abbrev by_policy : Result Copied CommandRefusal
   by_policy = and_then (policy_at tree home cwd task.policy) (λ policy. or_image (copy_in tree folder taken policy))
 
@@ -551,7 +572,7 @@ module _ (tree : Tree) (home cwd : List ℕ) (task : CopyTask) (folder target : 
       (λ a m s one i c. first_comes is_memory app.lane_course (rules_end home cwd task) rules_at (app_comes (rules_end home cwd task) rules_at) a m s (some_lane tree a.lanes i.first) c one
       (λ k l v at t. (rules_equal tree home cwd task unread k l v t (first_tells tree a.lanes k i.first at)).0))
       (λ a m v one i. begins_still folder tree a m i (app_kept (rules_end home cwd task) a m (Ok v) one) (first_still is_memory app.lane_course (rules_end home cwd task) tree rules_at (rules_equal tree home cwd task unread) (app_value (rules_end home cwd task)) a m v i.first one))
-      (λ m b rules s is two i c. of_image_comes (image_end task.plan rules.conf rules.policy) (copy_in tree folder taken rules.policy) m b (λ v end. image_comes tree folder target apart taken judges task.plan rules.conf rules.policy from to m b v end i c) s two)
+      (λ m b rules s is two i c. of_image_comes (image_end task.plan rules.conf rules.policy) (copy_in tree folder taken rules.policy) m b (λ v end. image_comes tree folder target apart taken judges task.plan rules.conf rules.policy from whole to m b v end i c) s two)
       x y r end begins calm
 
   task_comes : (x y : Seen) (r : Result Copied CommandRefusal) → image_of_task home cwd task x y r → Begins folder tree x → Calm x y → Comes is_memory r by_policy
@@ -573,6 +594,8 @@ module _ (tree : Tree) (home cwd : List ℕ) (task : CopyTask) (folder target : 
       by (Image (image.ManifestInvalid k)) is blames = absurd is
       by (Image (image.Rejected s n y)) is blames = absurd is
       by (Image (image.Blocked n)) is blames = absurd is
+      by (Image (image.BadReference text fault)) is blames = absurd is
+      by (Image (image.ShortName text count)) is blames = absurd is
       by (Image (image.NoSource attempts)) is blames = absurd is
       by (Words p k) is blames = absurd is
       by (Reference x f) is blames = absurd is
@@ -633,6 +656,8 @@ memory_four (Image (image.TooLarge q n)) memory = let no : false ≡ true = memo
 memory_four (Image (image.ManifestInvalid m)) memory = let no : false ≡ true = memory in cc
 memory_four (Image (image.Rejected s n y)) memory = let no : false ≡ true = memory in cc
 memory_four (Image (image.Blocked n)) memory = let no : false ≡ true = memory in cc
+memory_four (Image (image.BadReference text fault)) memory = let no : false ≡ true = memory in cc
+memory_four (Image (image.ShortName text count)) memory = let no : false ≡ true = memory in cc
 memory_four (Image (image.NoSource attempts)) memory = let no : false ≡ true = memory in cc
 memory_four (Words p k) memory = let no : false ≡ true = memory in cc
 memory_four (Reference t f) memory = let no : false ≡ true = memory in cc
@@ -664,10 +689,20 @@ end_comes words home cwd before after (Err e) w end f = by (is_memory e) refl en
 unread_copy : (words : List (List ℕ)) (cwd : List ℕ) (task : CopyTask) (folder : List ℕ) → task_of words cwd ≡ Ok (Copy task) → task.plan.source ≡ Dir folder → task.conf ≡ chosen.Unread
 unread_copy words cwd task folder named from = let asks = asks_copy words cwd task named in asks.conf ∙ ap (conf_choice_of cwd asks.common) from
 
+-- nor is a folder a short name
+whole_copy : (words : List (List ℕ)) (cwd : List ℕ) (task : CopyTask) (folder : List ℕ) → task_of words cwd ≡ Ok (Copy task) → task.plan.source ≡ Dir folder → task.plan.short ≡ None
+whole_copy words cwd task folder named from =
+    let asks = asks_copy words cwd task named in
+    asks.short ∙ ap (λ p. short_for asks.short_names p asks.source) from ∙ by asks.short_names asks.source
+  where
+    by : (b : Bool) (text : List ℕ) → short_for b (Dir folder) text ≡ None
+    by true text = refl
+    by false text = refl
+
 pub ends_by_tree : (words : List (List ℕ)) (home cwd : List ℕ) (task : CopyTask) (folder target : List ℕ) (tree : Tree) → EndsByTree words home cwd task folder target tree
 ends_by_tree words home cwd task folder target tree taken before after err_before err_after code copy judges calm end =
     by (end_comes words home cwd before after end.answer (answer_in tree home cwd task folder taken) end.is.ends
-    (λ one. ending_comes tree home cwd task folder target copy.apart copy.from copy.to (unread_copy words cwd task folder copy.named copy.from) taken judges words copy.named before after end.answer one (record { first = copy.first; same = copy.same }) calm))
+    (λ one. ending_comes tree home cwd task folder target copy.apart copy.from (whole_copy words cwd task folder copy.named copy.from) copy.to (unread_copy words cwd task folder copy.named copy.from) taken judges words copy.named before after end.answer one (record { first = copy.first; same = copy.same }) calm))
   where
     by : Comes is_memory end.answer (answer_in tree home cwd task folder taken) → (code ≡ 4) ⊎ (end.answer ≡ answer_in tree home cwd task folder taken)
     by (inl memory) = inl (end.status ∙ status_four end.answer memory)

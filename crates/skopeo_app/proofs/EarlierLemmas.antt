@@ -22,6 +22,8 @@ use Rattle.transports.specs.declared.refusal.Refusal.{Refusal}
 use Rattle.transports.specs.declared.found.Found.{Found}
 use Rattle.transports.specs.Within.{Within}
 use Rattle.transports.specs.Tried.{AreTried}
+use Rattle.transports.specs.Names.{AreNamesTried}
+use Rattle.transports.specs.declared.found.FoundImage.{FoundImage}
 use Rattle.transports.specs.Given.{ManifestEnds, SignaturesEnd, BlobEnds}
 use Rattle.transports.specs.Has.{HasBlob, IsReported, IsUntouched, OnlyAtDest, MayTake, RemovesInOrder}
 use Rattle.transports.specs.Fair.{IsFairOn}
@@ -31,7 +33,7 @@ use Rattle.transports.specs.StepEnds.{IsDone}
 use Rattle.transports.proofs.WithinLemmas.{within_earlier}
 use Rattle.transports.proofs.HasLemmas.{has_earlier, reported_earlier, untouched_then}
 use Rattle.admission.specs.Admission.{Admission}
-use Rattle.copy_engine.specs.Headline.{Answered, IsOfPlan, IsCopied, ImageHeadline}
+use Rattle.copy_engine.specs.Headline.{AnsweredAt, Answered, IsOfPlan, IsCopied, ImageHeadline}
 use Rattle.copy_engine.specs.Stops.{IsTouched, Leaves, IsGivenUp}
 use Rattle.copy_engine.specs.Delivered.{Delivers}
 use Rattle.skopeo_app.specs.Reads.{IsQuiet}
@@ -130,7 +132,7 @@ first_earlier R step (a ∷ x) (b ∷ y) (c ∷ z) quiet r = step a b c (quiet.e
 
 -- ---- the source that answered
 
-answered_earlier : (tls : Option Bool) (conf : Settings) (place : Place) (x y z : Seen) (found : Found) → AreQuiet x.lanes y.lanes → Answered tls conf place y z found → Answered tls conf place x z found
+answered_earlier : (tls : Option Bool) (conf : Settings) (place : Place) (x y z : Seen) (found : Found) → AreQuiet x.lanes y.lanes → AnsweredAt tls conf place y z found → AnsweredAt tls conf place x z found
 answered_earlier tls conf (Dir path) x y z found quiet answered = answered
 answered_earlier tls conf (Docker r) x y z found quiet answered = record {
   sources = answered.sources;
@@ -138,6 +140,14 @@ answered_earlier tls conf (Docker r) x y z found quiet answered = record {
   tried = first_earlier (Within (λ a b. AreTried tls answered.sources a b (Ok found))) (λ a b c q w. within_earlier (λ a b. AreTried tls answered.sources a b (Ok found)) a b c (quiet_later a b q) w) x.lanes y.lanes z.lanes quiet answered.tried;
 }
 answered_earlier tls conf (Oci path name) x y z found quiet answered = absurd answered
+
+image_earlier : (tls : Option Bool) (conf : Settings) (place : Place) (text : Option (List ℕ)) (x y z : Seen) (it : FoundImage) → AreQuiet x.lanes y.lanes → Answered tls conf place text y z it → Answered tls conf place text x z it
+image_earlier tls conf place None x y z it quiet answered = (answered.0, answered_earlier tls conf place x y z it.found quiet answered.1)
+image_earlier tls conf place (Some text) x y z it quiet answered = record {
+  names = answered.names;
+  stand = answered.stand;
+  tried = first_earlier (Within (λ a b. AreNamesTried tls conf answered.names a b (Ok it))) (λ a b c q w. within_earlier (λ a b. AreNamesTried tls conf answered.names a b (Ok it)) a b c (quiet_later a b q) w) x.lanes y.lanes z.lanes quiet answered.tried;
+}
 
 -- ---- an image's copy
 
@@ -157,8 +167,7 @@ module _ (policy : PolicyLists) (conf : Settings) (plan : CopyPlan) (x y z : See
   of_plan_earlier : (from : Source) (image : Admission) → IsOfPlan policy conf plan y z from image → IsOfPlan policy conf plan x z from image
   of_plan_earlier from image of = record {
     under = of.under;
-    as_named = of.as_named;
-    answered = answered_earlier plan.src_tls conf plan.source x y z (record { from = from; fetched = of.fetched }) quiet of.answered;
+    answered = image_earlier plan.src_tls conf plan.source plan.short x y z (record { place = image.place; found = record { from = from; fetched = of.fetched } }) quiet of.answered;
     fetched = of.fetched;
     gave = first_earlier (λ a b. ManifestEnds from None a b (Ok of.fetched)) (manifest_earlier from None (Ok of.fetched)) x.lanes y.lanes z.lanes quiet of.gave;
     same = of.same;

@@ -5,12 +5,13 @@ use Rattle.skopeo_words.specs.CopyOf.{CopyOf}
 use Rattle.skopeo_words.specs.declared.command.Common.{Common}
 use Rattle.skopeo_words.specs.declared.command.Passing.{Passing}
 use Rattle.transports.specs.Places.{IsBetweenPlaces}
-use Rattle.skopeo_app.specs.Plan.{lanes_for}
+use Rattle.skopeo_app.specs.Plan.{lanes_for, short_for}
 use Rattle.skopeo_app.specs.Task.{asks_more, are_built, choice_of, conf_choice_of}
 use Rattle.skopeo_app.specs.declared.task.CopyTask.{CopyTask}
 
--- the words are a `copy`; its operands spell the places of the task, which are built and not one folder; its options choose
--- the policy, the configuration, the lanes and the use of TLS of the task, and ask for nothing that is not built
+-- the words are a `copy`; its operands spell the places of the task, which are built and not one folder, and with
+-- `--short-names` the short name, where the source is one; its options choose the policy, the configuration, the lanes and the
+-- use of TLS of the task, and ask for nothing that is not built
 pub record AsksCopy (words : List (List ℕ)) (cwd : List ℕ) (task : CopyTask) : Type 0 where
   pub common : Common
   pub passing : Passing
@@ -19,10 +20,11 @@ pub record AsksCopy (words : List (List ℕ)) (cwd : List ℕ) (task : CopyTask)
   pub dest : List ℕ
   pub asked : CopyOf words common passing task.quiet short_names source dest
   pub from : PlaceOf cwd source task.plan.source
+  pub short : task.plan.short ≡ short_for short_names task.plan.source source
   pub to : PlaceOf cwd dest task.plan.dest
   pub apart : IsBetweenPlaces task.plan
   pub built : are_built task.plan ≡ true
-  pub plain : asks_more common passing short_names ≡ false
+  pub plain : asks_more common passing ≡ false
   pub lanes : task.plan.lanes ≡ lanes_for common
   pub tls : task.plan.src_tls ≡ passing.src_tls
   pub policy : task.policy ≡ choice_of cwd common

@@ -1,7 +1,9 @@
 -- The places of a copy, its lanes, and whether its registry may be asked without TLS.
-use Rattle.std.specs.Prelude.{◌&&◌, ◌<◌, [], List, ℕ, Bool, true, false, if◌then◌else◌, max, Option, Result, Ok, Err}
+use Rattle.std.specs.Prelude.{◌&&◌, ◌<◌, [], List, ℕ, Bool, true, false, if◌then◌else◌, max, codes, take, drop, Option, Some, None, Result, Ok, Err}
+use Rattle.std.specs.Option.{is_none}
 use Rattle.std.specs.Str.{bytes_eq}
 use Rattle.image_ref.specs.PlaceReading.{place_of}
+use Rattle.image_ref.specs.Reading.{pieces_of}
 use Rattle.image_ref.specs.declared.place.Place.{Place}
 use Rattle.image_ref.specs.declared.place.Place.TheVariants as place
 use Rattle.image_ref.specs.declared.fault.PlaceFault.{PlaceFault}
@@ -54,12 +56,31 @@ apart plan = if are_same plan then Err (SamePlace (folder_in plan.source)) else 
 abbrev pub lanes_for : Common → ℕ
 lanes_for common = max common.lanes 1
 
+-- a text that names no host
+abbrev pub hostless : List ℕ → Option (List ℕ)
+hostless text = if is_none (pieces_of text).host then Some text else None
+
+abbrev pub hostless_in : Option (List ℕ) → Option (List ℕ)
+hostless_in (Some text) = hostless text
+hostless_in None = None
+
+-- what stands behind `docker://`
+abbrev pub behind_docker : List ℕ → Option (List ℕ)
+behind_docker text = if bytes_eq (take 9 text) (codes "docker://") then Some (drop 9 text) else None
+
+-- the short name that a source is: where short names are resolved, the text of a registry's image that names no host
+abbrev pub short_for : Bool → Place → List ℕ → Option (List ℕ)
+short_for false from text = None
+short_for true (place.Docker reference) text = hostless_in (behind_docker text)
+short_for true (place.Dir path) text = None
+short_for true (place.Oci path tag) text = None
+
 -- the places of a copy: the source is read first
-unfoldable pub plan_of : List ℕ → ℕ → Option Bool → List ℕ → List ℕ → Result CopyPlan CommandRefusal
-plan_of cwd lanes src_tls source dest = do
+unfoldable pub plan_of : List ℕ → ℕ → Option Bool → Bool → List ℕ → List ℕ → Result CopyPlan CommandRefusal
+plan_of cwd lanes src_tls short_names source dest = do
   from ← place_at cwd source
   to ← place_at cwd dest
-  apart (record { source = from; dest = to; lanes = lanes; src_tls = src_tls })
+  apart (record { source = from; short = short_for short_names from source; dest = to; lanes = lanes; src_tls = src_tls })
 
 -- what a copy needs: two places that are not one folder, and a lane
 pub record IsSoundPlan (plan : CopyPlan) : Type 0 where

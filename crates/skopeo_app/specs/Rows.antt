@@ -4,6 +4,7 @@ use Rattle.skopeo_outside.specs.declared.words.What.{What}
 use Rattle.skopeo_outside.specs.declared.words.What.TheVariants as what
 use Rattle.skopeo_outside.specs.declared.words.Step.{Step}
 use Rattle.image_ref.specs.declared.fault.PlaceFault.{PlaceFault}
+use Rattle.image_ref.specs.declared.fault.PlaceFault.TheVariants as place
 use Rattle.policy_file.specs.declared.fault.PolicyKind.{PolicyKind}
 use Rattle.skopeo_words.specs.declared.fault.WordsKind.{WordsKind}
 use Rattle.copy_workers.specs.declared.cause.BlobMismatch.{BlobMismatch}
@@ -49,6 +50,10 @@ memory_row = row 4 (codes "OutOfMemory") []
 abbrev pub reference_row : List ℕ → PlaceFault → Row
 reference_row text fault =
     row 10 (codes "BadReference") ((codes "text", as_text text) ∷ (codes "fault", as_word (place_word fault)) ∷ (codes "at", as_number (place_offset fault)) ∷ [])
+
+-- a short name stands for no image: it has no alias, and so many registries are searched
+abbrev pub short_row : List ℕ → ℕ → Row
+short_row text count = row 11 (codes "ShortName") ((codes "text", as_text text) ∷ (codes "count", as_number count) ∷ [])
 
 -- no policy file is there
 abbrev pub missing_row : List ℕ → Row
@@ -196,6 +201,8 @@ image_row (image.ManifestInvalid member) = manifest_row member
 image_row (image.Job job reason) = job_row job (cause_row reason)
 image_row (image.Files count) = files_row count
 image_row (image.Wire count) = wire_row count
+image_row (image.BadReference text fault) = reference_row text (place.Reference fault)
+image_row (image.ShortName text count) = short_row text count
 image_row (image.Blocked table) = blocked_row table
 image_row (image.NoSource attempts) = sources_row (length attempts)
 image_row image.Memory = memory_row

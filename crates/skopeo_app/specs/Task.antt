@@ -31,10 +31,10 @@ use Rattle.skopeo_app.specs.declared.task.Task.{Task}
 use Rattle.skopeo_app.specs.declared.task.Task.TheVariants.{Page, Copy}
 
 -- an option is given of which the work is not built
-abbrev pub asks_more : Common → Passing → Bool → Bool
-asks_more common passing short_names =
+abbrev pub asks_more : Common → Passing → Bool
+asks_more common passing =
     ((is_some common.location_cache || is_some common.os) || (is_some common.arch || is_some common.variant))
-    || (((short_names || passing.all) || (passing.preserve || passing.remove_signatures))
+    || ((passing.all || (passing.preserve || passing.remove_signatures))
     || ((is_some passing.format || is_some passing.dest_tls) || (is_some passing.lookaside || is_some passing.verifier)))
 
 -- copies are built from a folder or a registry to a folder
@@ -42,9 +42,9 @@ abbrev pub are_built : CopyPlan → Bool
 are_built plan = (is_folder plan.source || is_registry plan.source) && is_folder plan.dest
 
 -- a copy with these options, where all that they ask for is built
-abbrev pub built : Common → Passing → Bool → CopyPlan → Result ⊤ CommandRefusal
-built common passing short_names plan =
-    if asks_more common passing short_names then Err (NotBuilt unbuilt.Option)
+abbrev pub built : Common → Passing → CopyPlan → Result ⊤ CommandRefusal
+built common passing plan =
+    if asks_more common passing then Err (NotBuilt unbuilt.Option)
     else if are_built plan then Ok tt else Err (NotBuilt unbuilt.Place)
 
 abbrev pub by_path : List ℕ → Option (List ℕ) → PolicyChoice
@@ -70,8 +70,8 @@ chosen cwd common quiet plan = record { policy = choice_of cwd common; conf = co
 -- one copy
 unfoldable pub copy_of : List ℕ → Common → Passing → Bool → Bool → List ℕ → List ℕ → Result Task CommandRefusal
 copy_of cwd common passing quiet short_names source dest = do
-  plan ← plan_of cwd (lanes_for common) passing.src_tls source dest
-  _ ← built common passing short_names plan
+  plan ← plan_of cwd (lanes_for common) passing.src_tls short_names source dest
+  _ ← built common passing plan
   Ok (Copy (chosen cwd common quiet plan))
 
 -- what a copy needs

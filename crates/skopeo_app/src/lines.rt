@@ -55,6 +55,8 @@ fn attempts_in(refusal: &Refusal) -> &[Attempt]
         Refusal::Job(_, _) => &[],
         Refusal::Files(_) => &[],
         Refusal::Wire(_) => &[],
+        Refusal::BadReference(_, _) => &[],
+        Refusal::ShortName(_, _) => &[],
         Refusal::Blocked(_) => &[],
         Refusal::NoSource(attempts) => attempts.as_slice(),
         Refusal::Memory => &[],

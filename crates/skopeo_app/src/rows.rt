@@ -2,7 +2,7 @@
 ghost use Rattle.std.specs.Prelude.{◌≡◌, IfOk};
 ghost use Rattle.std.specs.String.{string_bytes};
 ghost use Rattle.skopeo_app.specs.Words.{unbuilt_word, part_word, conf_word, conf_member};
-ghost use Rattle.skopeo_app.specs.Rows.{words_row, memory_row, reference_row, missing_row, policy_row, conf_row, blocked_row, sources_row, digest_row, rewrite_row, tls_row, scope_field, rejected_row, manifest_row, mismatch_row, absent_row, dest_row, folder_row, same_row, large_row, answer_row, source_row, encoded_row, redirects_row, unbuilt_row, wire_row, files_row, output_row, cause_row, attempt_row, job_row, image_row, row_of};
+ghost use Rattle.skopeo_app.specs.Rows.{words_row, memory_row, reference_row, short_row, missing_row, policy_row, conf_row, blocked_row, sources_row, digest_row, rewrite_row, tls_row, scope_field, rejected_row, manifest_row, mismatch_row, absent_row, dest_row, folder_row, same_row, large_row, answer_row, source_row, encoded_row, redirects_row, unbuilt_row, wire_row, files_row, output_row, cause_row, attempt_row, job_row, image_row, row_of};
 ghost use Rattle.skopeo_app.specs.Lines.{json_text, field_text, as_printed, printed, printed_in_job};
 
 use crate::refusal::CommandRefusal;
@@ -80,6 +80,19 @@ fn reference_row(alloc: Global, text: &str, fault: PlaceFault) -> Result<Printed
         10,
         "BadReference",
         format!(in alloc; " text={text} fault={word} at={at}\n")?,
+    )
+}
+
+#[tactic(auto, unfolding(crate::specs::Lines::printed))]
+fn short_row(alloc: Global, text: &str, count: u32) -> Result<Printed, Memory>
+    ensures { IfOk result (λ p. p ≡ printed (short_row text.now count)) }
+{
+    let text = json_text(alloc, text)?;
+    row(
+        alloc,
+        11,
+        "ShortName",
+        format!(in alloc; " text={text} count={count}\n")?,
     )
 }
 
@@ -466,6 +479,10 @@ fn image_row(alloc: Global, refusal: &Refusal) -> Result<Printed, Memory>
         Refusal::Job(job, cause) => job_row(alloc, *job, cause),
         Refusal::Files(count) => files_row(alloc, *count),
         Refusal::Wire(count) => wire_row(alloc, *count),
+        Refusal::BadReference(text, fault) => {
+            reference_row(alloc, text.as_str(), PlaceFault::Reference(*fault))
+        }
+        Refusal::ShortName(text, count) => short_row(alloc, text.as_str(), *count),
         Refusal::Blocked(table) => blocked_row(alloc, *table),
         Refusal::NoSource(attempts) => sources_row(alloc, attempts.as_slice().len()),
         Refusal::Memory => memory_row(alloc),

@@ -4,12 +4,13 @@ ghost use Rattle.std.specs.String.{string_bytes};
 ghost use Rattle.skopeo_outside.specs.Steps.{Says};
 ghost use Rattle.skopeo_app.specs.Refusals.{is_output};
 ghost use Rattle.skopeo_app.specs.Courses.{command_course};
-ghost use Rattle.skopeo_app.specs.Plan.{place_at, is_folder, is_registry, folder_in, are_same, apart, lanes_for, plan_of};
+ghost use Rattle.skopeo_app.specs.Plan.{place_at, is_folder, is_registry, folder_in, are_same, apart, lanes_for, hostless, short_for, plan_of};
 ghost use Rattle.skopeo_app.specs.Task.{asks_more, are_built, built, by_path, choice_of, by_conf_path, conf_choice_of, chosen, copy_of, unbuilt_at, unbuilt_sync, task_in, IsSound, task_of};
 
 use crate::refusal::{CommandRefusal, Unbuilt};
 use copy_engine::{CopyPlan, Refusal};
 use image_ref::{Place, PlaceFault, RefFault, clean_path, parse_named, parse_place};
+use registries_conf::is_short;
 use skopeo_outside::{Memory, Text};
 use skopeo_words::{
     Command, Common, Passing, SyncEnd, WordsFault, help_text, read_words, version_text,
@@ -128,40 +129,74 @@ fn lanes_for(common: &Common) -> u32
     common.lanes.max(1)
 }
 
-/// The places of a copy, and its lanes.
-#[tactic(auto, using(crate::proofs::TaskLemmas::then_says, crate::proofs::TaskLemmas::then_refuses), unfolding(crate::specs::Plan::plan_of))]
+/// A text that names no host.
+fn hostless(alloc: Global, text: &str) -> Result<Option<Text>, Memory>
+    ensures { IfOk result (λ short. short ≡ hostless text.now) }
+{
+    if !is_short(text) {
+        return Ok(None);
+    }
+    Ok(Some(Text::copy_of(alloc, text)?))
+}
+
+/// The short name that a source is.
+fn short_for(
+    alloc: Global,
+    short_names: bool,
+    from: &Place,
+    text: &str,
+) -> Result<Option<Text>, Memory>
+    ensures { IfOk result (λ short. short ≡ short_for short_names from.now text.now) }
+{
+    if !short_names {
+        return Ok(None);
+    }
+    match from {
+        Place::Docker(_) => match text.strip_prefix("docker://") {
+            Some(rest) => hostless(alloc, rest),
+            None => Ok(None),
+        },
+        Place::Dir(_) => Ok(None),
+        Place::Oci(_, _) => Ok(None),
+    }
+}
+
+/// The places of a copy, its lanes and its short name.
+#[tactic(auto, using(crate::proofs::TaskLemmas::then_says, crate::proofs::TaskLemmas::then_refuses, crate::proofs::TaskLemmas::says_memory), unfolding(crate::specs::Plan::plan_of))]
 fn plan_of(
     alloc: Global,
     cwd: &str,
     lanes: u32,
     src_tls: Option<bool>,
+    short_names: bool,
     source: &str,
     dest: &str,
 ) -> Result<CopyPlan, CommandRefusal>
     ensures apart { IfOk result (λ p. are_same p ≡ false) }
     ensures lanes { IfOk result (λ p. p.lanes ≡ lanes) }
-    ensures says { Says command_course (plan_of cwd.now lanes src_tls source.now dest.now) result }
+    ensures says { Says command_course (plan_of cwd.now lanes src_tls short_names source.now dest.now) result }
     ensures other { IfErr result (λ e. is_output e ≡ false) }
 {
-    let source = place_at(alloc, cwd, source)?;
-    let dest = place_at(alloc, cwd, dest)?;
+    let from = place_at(alloc, cwd, source)?;
+    let to = place_at(alloc, cwd, dest)?;
+    let short = short_for(alloc, short_names, &from, source)?;
     let plan = CopyPlan {
-        source,
-        dest,
+        source: from,
+        short,
+        dest: to,
         lanes,
         src_tls,
     };
     apart(alloc, plan)
 }
 
-fn asks_more(common: &Common, passing: &Passing, short_names: bool) -> bool
-    ensures { result ≡ asks_more common.now passing.now short_names }
+fn asks_more(common: &Common, passing: &Passing) -> bool
+    ensures { result ≡ asks_more common.now passing.now }
 {
     common.location_cache.is_some()
         || common.os.is_some()
         || common.arch.is_some()
         || common.variant.is_some()
-        || short_names
         || passing.all
         || passing.preserve
         || passing.remove_signatures
@@ -179,17 +214,12 @@ fn are_built(plan: &CopyPlan) -> bool
 
 /// Refuses options and places that are not built yet.
 #[tactic(auto, unfolding(skopeo_outside::specs::Steps::Says, crate::specs::Courses::command_course))]
-fn require_built(
-    common: &Common,
-    passing: &Passing,
-    short_names: bool,
-    plan: &CopyPlan,
-) -> Result<(), CommandRefusal>
+fn require_built(common: &Common, passing: &Passing, plan: &CopyPlan) -> Result<(), CommandRefusal>
     ensures built { IfOk result (λ _. are_built plan.now ≡ true) }
-    ensures says { Says command_course (built common.now passing.now short_names plan.now) result }
+    ensures says { Says command_course (built common.now passing.now plan.now) result }
     ensures other { IfErr result (λ e. is_output e ≡ false) }
 {
-    if asks_more(common, passing, short_names) {
+    if asks_more(common, passing) {
         return Err(CommandRefusal::NotBuilt(Unbuilt::Option));
     }
     if !are_built(plan) {
@@ -265,8 +295,17 @@ fn copy_of(
     ensures says { Says command_course (copy_of cwd.now common.now passing.now quiet short_names source.now dest.now) result }
     ensures other { IfErr result (λ e. is_output e ≡ false) }
 {
-    let plan = plan_of(alloc, cwd, lanes_for(common), passing.src_tls, source, dest)?;
-    require_built(common, passing, short_names, &plan)?;
+    let tls = passing.src_tls;
+    let plan = plan_of(
+        alloc,
+        cwd,
+        lanes_for(common),
+        tls,
+        short_names,
+        source,
+        dest,
+    )?;
+    require_built(common, passing, &plan)?;
     let task = chosen(alloc, cwd, common, quiet, plan)?;
     Ok(Task::Copy(task))
 }

@@ -3,6 +3,7 @@ pub mod WithinLemmas
 pub mod AskLemmas
 pub mod RegistryLemmas
 pub mod TriedLemmas
+pub mod NameLemmas
 pub mod FoundLemmas
 pub mod SameLemmas
 pub mod GivenLemmas

@@ -191,6 +191,21 @@ given_spares it a b g = subst (λ (s : From). Spares s a b) (sym g.from) g.later
 pub tried_spares : (tls : Option Bool) (ss : List Source) (it : Found) (a b : LaneTold) → AreTried tls ss a b (Ok it) → Spares it.from a b
 tried_spares tls ss it a b tried = given_spares it a b (tried_gave tls ss it a b tried)
 
+-- however they end, a lane goes on
+pub tried_later : (tls : Option Bool) (ss : List Source) (a b : LaneTold) (r : Result Found (List Attempt)) → AreTried tls ss a b r → IsLater a b
+tried_later tls [] a b r tried = subst (λ x. IsLater a x) (sym tried.1) (later_same a)
+tried_later tls (s ∷ ss) a b r (inl one) = let g = one_gave (may_ask tls s.insecure) s.reference s.text one.0 a b one.1 in g.later
+tried_later tls (s ∷ ss) a b r (inr more) =
+    later_then a more.0 b (one_later (may_ask tls s.insecure) s.reference s.text more.1 a more.0 more.3) (tried_later tls ss more.0 b more.2 more.4)
+
+-- ---- the wire to the source alone
+
+pub on_same : (a : LaneTold) → OnSource a a
+on_same a = record { to = refl; files = refl; number = refl }
+
+pub on_then : (a b c : LaneTold) → OnSource a b → OnSource b c → OnSource a c
+on_then a b c one two = record { to = two.to ∙ one.to; files = two.files ∙ one.files; number = two.number ∙ one.number }
+
 -- ---- by the answer of a call
 
 pub asks_by : (r : Reference) (made : Registry) (name : List ℕ) (old new : LaneTold) (answer : Result Fetched RegistryFault) (result : Result (Result Fetched AttemptCause) Memory) → made ≡ registry_of r → name ≡ name_in r → OnSource old new

@@ -28,6 +28,8 @@ pub shows_earlier : (e : Refusal) (a b c : LaneTold) → IsLater a b → Shows e
 shows_earlier (refusal.Files count) a b c later f = files_earlier count a b c later f
 shows_earlier (refusal.Wire count) a b c later f = wire_earlier count a b c later f
 shows_earlier (refusal.Job number reason) a b c later f = tt
+shows_earlier (refusal.BadReference text fault) a b c later f = tt
+shows_earlier (refusal.ShortName text count) a b c later f = tt
 shows_earlier (refusal.Blocked number) a b c later f = tt
 shows_earlier (refusal.NoSource attempts) a b c later f = tt
 shows_earlier (refusal.NotBuilt p) a b c later f = tt

@@ -5,6 +5,7 @@ pub mod Blobs
 pub mod Within
 pub mod Registries
 pub mod Tried
+pub mod Names
 pub mod Given
 pub mod Calls
 pub mod Beside

@@ -4,6 +4,7 @@ ghost use Rattle.transports.specs.declared.refusal.Refusal.TheVariants as refusa
 
 use crate::attempt::Attempt;
 use copy_workers::Cause;
+use image_ref::RefFault;
 use skopeo_outside::{Many, Memory, Text, What};
 
 /// What is not built yet.
@@ -26,6 +27,10 @@ pub enum Why {
 #[derive(Debug, Drop)]
 pub enum Refusal {
     NotBuilt(Part),
+    /// The text that a short name stands for is no reference, and why.
+    BadReference(Text, RefFault),
+    /// The short name has no alias, and so many registries are searched: none, or several of which one is to be chosen.
+    ShortName(Text, u32),
     /// The table of this number, counted from 1, is blocked, and the image is under it.
     Blocked(u32),
     /// No source gave the manifest: each in order, with its cause.

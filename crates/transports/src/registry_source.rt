@@ -19,7 +19,7 @@ ghost use Rattle.transports.specs.Calls.{exchange_by, fault_by};
 use crate::blob::Blob;
 use copy_workers::Cause;
 use digest_reader::Job;
-use http_exchange::{Answer, next_piece as next_of_answer};
+use http_exchange::{Answer, read_full as next_of_answer};
 use http_message::ExchangeFault;
 use image_ref::ImageRef;
 use registry_http::{Registry, RegistryFault};

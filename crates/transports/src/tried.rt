@@ -8,7 +8,7 @@ ghost use Rattle.transports.specs.StepEnds.{reading};
 ghost use Rattle.transports.specs.Given.{Spares};
 ghost use Rattle.transports.specs.Has.{IsUntouched};
 ghost use Rattle.transports.specs.Found.{trying};
-ghost use Rattle.transports.specs.Tried.{AsksManifest, IsBy, IsTriedBy, IsTried, OnSource, checked, exchange_cause, fault_cause, found_at, may_ask};
+ghost use Rattle.transports.specs.Tried.{AsksManifest, IsBy, IsTriedBy, IsTried, AreTried, OnSource, checked, exchange_cause, fault_cause, found_at, may_ask};
 
 use crate::attempt::{Attempt, AttemptCause};
 use crate::found::Found;
@@ -177,7 +177,35 @@ fn note(
     attempts.push(Attempt { source, cause })
 }
 
-/// Tries sources in order, up to the first that gives the manifest.
+/// Tries sources in order, up to the first that gives the manifest, or answers the failed attempts.
+#[tactic(auto, using(crate::proofs::TriedLemmas::on_same, crate::proofs::TriedLemmas::on_then, crate::proofs::SameLemmas::later_now, skopeo_outside::specs::LaneLaws::later_then, crate::proofs::TriedLemmas::none_failed))]
+pub(crate) fn try_each<W: Wire, F: Files>(
+    alloc: Global,
+    sources: &[registries_conf::Source],
+    tls: Option<bool>,
+    lane: &mut Lane<W, F>,
+) -> Result<Result<Found, Many<Attempt>>, Memory>
+    ensures tried { IfOk result (λ x. AreTried tls sources.now lane.old lane.new x) }
+    ensures on { OnSource lane.old lane.new }
+    ensures later { IsLater lane.old lane.new }
+{
+    let mut attempts = Many::new(alloc);
+    for source in sources {
+        match try_source(alloc, source, tls, lane) {
+            Err(wanted) => return Err(wanted),
+            Ok(Ok(found)) => return Ok(Ok(found)),
+            Ok(Err(cause)) => {
+                if note(alloc, source, cause, &mut attempts).is_err() {
+                    return Err(Memory);
+                }
+            }
+        }
+    }
+    Ok(Err(attempts))
+}
+
+/// Tries sources in order; where all fail, the refusal lists the attempts.
+#[tactic(auto, using(crate::proofs::TriedLemmas::trying_memory, crate::proofs::RegistryLemmas::untouched_source))]
 pub(crate) fn try_sources<W: Wire, F: Files>(
     alloc: Global,
     sources: &[registries_conf::Source],
@@ -188,17 +216,9 @@ pub(crate) fn try_sources<W: Wire, F: Files>(
     ensures untouched { IsUntouched lane.old lane.new }
     ensures spares { IfOk result (λ it. Spares it.from lane.old lane.new) }
 {
-    let mut attempts = Many::new(alloc);
-    for source in sources {
-        match try_source(alloc, source, tls, lane) {
-            Err(_) => return Err(Refusal::Memory),
-            Ok(Ok(found)) => return Ok(found),
-            Ok(Err(cause)) => {
-                if note(alloc, source, cause, &mut attempts).is_err() {
-                    return Err(Refusal::Memory);
-                }
-            }
-        }
+    match try_each(alloc, sources, tls, lane) {
+        Err(_) => Err(Refusal::Memory),
+        Ok(Ok(found)) => Ok(found),
+        Ok(Err(attempts)) => Err(Refusal::NoSource(attempts)),
     }
-    Err(Refusal::NoSource(attempts))
 }
