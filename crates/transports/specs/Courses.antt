@@ -37,6 +37,13 @@ shows_earlier (refusal.NotAnImageDir p) a b c later f = tt
 shows_earlier (refusal.TooLarge w n) a b c later f = tt
 shows_earlier (refusal.ManifestInvalid m) a b c later f = tt
 shows_earlier (refusal.Rejected s p w) a b c later f = tt
+shows_earlier (refusal.Garbled status front) a b c later f = tt
+shows_earlier (refusal.BadAnswer s front) a b c later f = tt
+shows_earlier (refusal.LookasideRefused number status) a b c later f = tt
+shows_earlier (refusal.Encoded s) a b c later f = tt
+shows_earlier (refusal.TooManyRedirects s) a b c later f = tt
+shows_earlier (refusal.TlsRequired host) a b c later f = tt
+shows_earlier (refusal.Helper count) a b c later f = tt
 shows_earlier refusal.Memory a b c later f = tt
 
 -- one lane, whose faults are told by their count

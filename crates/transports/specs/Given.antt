@@ -28,6 +28,7 @@ use Rattle.transports.specs.declared.refusal.Refusal.TheVariants.{NotAnImageDir,
 use Rattle.transports.specs.Blobs.{looked_at}
 use Rattle.transports.specs.Registries.{request_of, LeadsTo, HasBody, BeginsWith, BlobAt, IsReading}
 use Rattle.transports.specs.Tried.{AsksManifest}
+use Rattle.transports.specs.Stores.{StoreAt, AreStored}
 use Rattle.transports.specs.Within.{Within}
 
 -- the files directly in a folder are as they were
@@ -65,10 +66,15 @@ abbrev pub by_folder : {A : Type 0} → List ℕ → Result A LayoutFault → Re
 by_folder folder (Ok x) = Ok x
 by_folder folder (Err fault) = Err (refusal_of folder fault)
 
--- how the reading of the signatures ends; no signatures are stored beside an image at a registry yet
-unfoldable pub SignaturesEnd : Source → Option (List ℕ) → LaneTold → LaneTold → Result (List (List ℕ)) Refusal → Type 0
-SignaturesEnd (Folder path) part old new r = IfSome old.files.tree (λ t. r ≡ by_folder path (signatures_in (numbered t path (prefix_of part))))
-SignaturesEnd (Registry reference) part old new r = (r ≡ Ok []) × IsLater old new
+-- what a store gives, where there is one; without one there are no signatures
+abbrev pub StoredEnd : Option StoreAt → LaneTold → LaneTold → Result (List (List ℕ)) Refusal → Type 0
+StoredEnd None old new r = (r ≡ Ok []) × IsLater old new
+StoredEnd (Some store) old new r = Within (λ a b. AreStored store a b r) old new
+
+-- how the reading of the signatures ends: those that stand in a folder, or those that are stored of an image at a registry
+unfoldable pub SignaturesEnd : Source → Option StoreAt → Option (List ℕ) → LaneTold → LaneTold → Result (List (List ℕ)) Refusal → Type 0
+SignaturesEnd (Folder path) store part old new r = IfSome old.files.tree (λ t. r ≡ by_folder path (signatures_in (numbered t path (prefix_of part))))
+SignaturesEnd (Registry reference) store part old new r = StoredEnd store old new r
 
 -- ---- blobs
 

@@ -6,6 +6,7 @@ pub mod Within
 pub mod Registries
 pub mod Tried
 pub mod Names
+pub mod Stores
 pub mod Given
 pub mod Calls
 pub mod Beside

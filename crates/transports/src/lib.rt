@@ -15,6 +15,8 @@ mod registry_source;
 mod report;
 mod source;
 mod stopped;
+mod store;
+mod stored;
 mod tried;
 
 pub use attempt::{Attempt, AttemptCause};
@@ -23,6 +25,8 @@ pub use copy_workers::{BlobMismatch, Cause};
 pub use dest::Dest;
 pub use found::{Found, FoundImage, find_source};
 pub use plan::CopyPlan;
-pub use refusal::{Part, Refusal, Why};
+pub use policy_gate::{Reason, Why};
+pub use refusal::{Part, Refusal};
 pub use report::{Copied, CopiedRow};
 pub use source::Source;
+pub use store::{Store, store_of};

@@ -12,4 +12,10 @@ pub struct CopyPlan {
     pub lanes: u32,
     /// Whether TLS is verified at the source, where that is said: no source may be asked without it, or each.
     pub src_tls: Option<bool>,
+    /// The base of a store of signatures, `http://HOST/PATH` without a slash at its end, where one is named.
+    pub lookaside: Option<Text>,
+    /// The program that judges signatures, where one is named.
+    pub verifier: Option<Text>,
+    /// The folder that relative paths of keys are seen from.
+    pub cwd: Text,
 }

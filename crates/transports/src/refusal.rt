@@ -5,7 +5,8 @@ ghost use Rattle.transports.specs.declared.refusal.Refusal.TheVariants as refusa
 use crate::attempt::Attempt;
 use copy_workers::Cause;
 use image_ref::RefFault;
-use skopeo_outside::{Many, Memory, Text, What};
+use policy_gate::Why;
+use skopeo_outside::{Many, Memory, Step, Text, What};
 
 /// What is not built yet.
 #[derive(Clone, Copy, Debug, PartialEq, Eq)]
@@ -13,13 +14,6 @@ pub enum Part {
     Policy,
     Manifest,
     Place,
-}
-
-/// Why a requirement does not hold.
-#[derive(Clone, Copy, Debug, PartialEq, Eq)]
-pub enum Why {
-    Reject,
-    Sigstore,
 }
 
 /// Why the copy of an image ended. A job goes by its number, a requirement by its place, both from 1, and by the scope of
@@ -33,6 +27,8 @@ pub enum Refusal {
     ShortName(Text, u32),
     /// The table of this number, counted from 1, is blocked, and the image is under it.
     Blocked(u32),
+    /// The host, which a redirect of a stored signature names with `https`.
+    TlsRequired(Text),
     /// No source gave the manifest: each in order, with its cause.
     NoSource(Many<Attempt>),
     /// The folder at this path holds no image, or as a destination something else than an image.
@@ -42,9 +38,22 @@ pub enum Refusal {
     /// The bytes are no manifest; the first bad member by its JSON pointer (RFC 6901).
     ManifestInvalid(Text),
     Rejected(Option<Text>, u32, Why),
+    /// The program that judges signatures ended with this status, and not 0, or answered outside its protocol: the first 64
+    /// bytes.
+    Garbled(i32, Many<u8>),
+    /// The step, and the first 64 bytes of an answer outside the grammar.
+    BadAnswer(Step, Many<u8>),
+    /// The stored signature of this number, counted from 1, was answered with this status.
+    LookasideRefused(u32, u16),
+    /// The answer of the step has a content encoding.
+    Encoded(Step),
+    /// The step was redirected more often than it may be.
+    TooManyRedirects(Step),
     Job(u32, Cause),
     Files(u64),
     Wire(u64),
+    /// The program that judges signatures failed.
+    Helper(u64),
     Memory,
 }
 

@@ -13,6 +13,8 @@ ghost use Rattle.transports.specs.Uploads.{is_mismatch};
 
 use crate::blob::Blob;
 use crate::refusal::Refusal;
+use crate::store::Store;
+use crate::stored::stored_signatures;
 use crate::{folder_source, registry_source};
 use copy_workers::Cause;
 use digest_reader::Job;
@@ -31,22 +33,23 @@ pub enum Source {
 }
 
 impl Source {
-    /// The image's signatures, or those of its instance with this digest. Beside an image at a registry none are stored yet.
-    #[tactic(auto, using(crate::proofs::SameLemmas::untouched_same, crate::proofs::SameLemmas::spares_same, crate::proofs::RegistryLemmas::no_signatures))]
+    /// The signatures of the image, or of its instance with this digest. Those of an image at a registry stand in its store,
+    /// where it has one, under the manifest's digest.
     pub fn read_signatures<W: Wire, F: Files>(
         &self,
         alloc: Global,
         lane: &mut Lane<W, F>,
+        store: &Option<Store>,
         part: Option<&Digest>,
     ) -> Result<Many<Many<u8>>, Refusal>
         ensures ends { let digest = option_map (λ d. d.now) part.entry in
-            Ends lane_course (reading (SignaturesEnd self.now digest)) lane.old lane.new result }
+            Ends lane_course (reading (SignaturesEnd self.now store.now digest)) lane.old lane.new result }
         ensures untouched { IsUntouched lane.old lane.new }
         ensures spares { Spares self.now lane.old lane.new }
     {
         match self {
             Source::Folder(folder) => folder_source::read_signatures(alloc, lane, folder, part),
-            Source::Registry(_) => Ok(Many::new(alloc)),
+            Source::Registry(_) => stored_signatures(alloc, lane, store),
         }
     }
 
