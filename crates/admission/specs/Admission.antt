@@ -1,26 +1,28 @@
 -- An image that the policy admits (containers-policy.json(5), "Policy Requirements"), as the value `Admitted` shows it; and
 -- the fact that each such value stands for.
-use Rattle.std.specs.Prelude.{◌∷◌, [], ◌+◌, ◌-◌, ◌^◌, ◌<◌, List, ℕ, All, Option, Result, Ok, Err, ⊤, length}
-use Rattle.skopeo_outside.specs.declared.words.Fetched.{Fetched}
-use Rattle.json_tree.specs.Tree.{tree}
+use Rattle.std.specs.Prelude.{◌-◌, ◌^◌, ◌<◌, List, ℕ, Option, length}
+use Rattle.skopeo_outside.specs.Tree.{Tree}
+use Rattle.skopeo_outside.specs.Helper.{Runs}
+use Rattle.json_tree.specs.Tree.{tree as json}
+use Rattle.image_ref.specs.Digest.{digest_text}
 use Rattle.image_ref.specs.declared.place.Place.{Place}
 use Rattle.digest_reader.specs.declared.job.Job.{Job}
+use Rattle.digest_reader.specs.Digests.{digest}
 use Rattle.copy_workers.specs.Jobs.{AreJobs}
 use Rattle.manifest_v2s2.specs.declared.image.Image.{Image}
 use Rattle.manifest_v2s2.specs.declared.kind.Kind.{Kind}
 use Rattle.manifest_v2s2.specs.IsImage.{SaysImage}
-use Rattle.manifest_convert.specs.Blobs.{AreJobsOf, blobs, descriptors}
+use Rattle.manifest_convert.specs.Blobs.{AreJobsOf, descriptors}
 use Rattle.policy_file.specs.PolicyLists.{PolicyLists}
 use Rattle.policy_file.specs.declared.requirement.Requirement.{Requirement}
-use Rattle.policy_file.specs.declared.requirement.Requirement.TheVariants.{Accept, Reject, SignedBy, Sigstore}
-use Rattle.policy_scope.specs.Chosen.{Choice, chosen}
+use Rattle.policy_scope.specs.Seen.{reference_in}
+use Rattle.policy_gate.specs.Gate.{Case, AreHeld}
+use Rattle.policy_gate.specs.Calls.{Gained}
 use Rattle.admission.specs.Counts.{ListCounts}
-use Rattle.transports.specs.declared.refusal.Part.TheVariants as part
-use Rattle.transports.specs.declared.refusal.Refusal.{Refusal}
-use Rattle.transports.specs.declared.refusal.Refusal.TheVariants.{NotBuilt, Rejected}
-use Rattle.transports.specs.declared.refusal.Why.TheVariants as why
 
--- the policy, the image as it is named, its manifest, what that is, its jobs and its signatures
+-- the policy, the image as it is named, its manifest, what that is, its jobs and its signatures; the program that judges
+-- these, the folder that paths of keys are seen from, the tree of the files that keys are read in, and what the helper told
+-- before and after
 pub record Admission : Type 0 where
   pub policy : PolicyLists
   pub place : Place
@@ -29,21 +31,29 @@ pub record Admission : Type 0 where
   pub image : Image
   pub jobs : List Job
   pub signatures : List (List ℕ)
+  pub program : Option (List ℕ)
+  pub cwd : List ℕ
+  pub files : Option Tree
+  pub before : Runs
+  pub after : Runs
 
--- a requirement that holds of an image. (Place for `signedBy`: some signature's run answered `good` for this manifest.)
-abbrev pub Holds : Admission → Requirement → Type 0
-Holds image Accept = Unit {0}
-Holds image Reject = ⊥
-Holds image (SignedBy keys identity) = ⊥
-Holds image Sigstore = ⊥
+-- what is put to the gate of it: the image as it is named, the digest of its manifest's bytes, and its signatures
+abbrev pub case_of : Admission → Case
+case_of image = record {
+  subject = record { named = reference_in image.place; digest = digest_text (digest image.manifest) };
+  signatures = image.signatures;
+  program = image.program;
+  cwd = image.cwd;
+  tree = image.files;
+}
 
--- the fact: every requirement of the list that the policy has for the image as it is named holds; the manifest says this
--- image, by the format; and its jobs are its blobs, each one job
+-- the fact: every requirement of the list that the policy has for the image as it is named holds, over the runs that were
+-- gained; the manifest says this image, by the format; and its jobs are its blobs, each one job
 pub record IsAdmitted (image : Admission) : Type 0 where
   pub list : List Requirement
   pub counts : ListCounts image.policy image.place list
-  pub gate : All (Holds image) list
-  pub is_image : SaysImage image.kind (tree image.manifest) image.image
+  pub gate : Gained image.before image.after (AreHeld (case_of image) list)
+  pub is_image : SaysImage image.kind (json image.manifest) image.image
   pub jobs_are : AreJobsOf (descriptors image.image) image.jobs
 
 -- its jobs are numbered from 1 and have different digests, and there are few enough for the workers
@@ -54,27 +64,3 @@ pub record HasJobs (image : Admission) : Type 0 where
 -- what holds of each `Admitted`
 abbrev pub IsSound : Admission → Type 0
 IsSound image = IsAdmitted image × HasJobs image
-
--- ---- the same as a function
-
--- the first requirement that does not hold, the first of the list having this place
-abbrev pub judged : Option (List ℕ) → ℕ → List Requirement → Result ⊤ Refusal
-judged scope place [] = Ok tt
-judged scope place (Accept ∷ list) = judged scope (place + 1) list
-judged scope place (Reject ∷ list) = Err (Rejected scope place why.Reject)
-judged scope place (SignedBy keys identity ∷ list) = Err (NotBuilt part.Policy)
-judged scope place (Sigstore ∷ list) = Err (Rejected scope place why.Sigstore)
-
--- that of the list that counts for an image
-abbrev pub judged_by : Choice → Result ⊤ Refusal
-judged_by choice = judged choice.scope 1 choice.list
-
-abbrev pub where_judged : Result ⊤ Refusal → Admission → Result Admission Refusal
-where_judged (Ok done) image = Ok image
-where_judged (Err e) image = Err e
-
--- the image that is admitted of fetched bytes, or why none is
-unfoldable pub admitted_of : PolicyLists → Place → Fetched → Kind → Image → List (List ℕ) → Result Admission Refusal
-admitted_of policy place fetched kind image signatures =
-    where_judged (judged_by (chosen policy place))
-    (record { policy = policy; place = place; manifest = fetched.bytes; kind = kind; image = image; jobs = blobs image; signatures = signatures })

@@ -12,11 +12,11 @@ use Rattle.transports.specs.declared.refusal.Part.TheVariants as part
 use Rattle.transports.specs.declared.refusal.Refusal.{Refusal}
 use Rattle.transports.specs.declared.refusal.Refusal.TheVariants.{NotBuilt, ManifestInvalid}
 
--- copies are built for images of schema 2
+-- copies are built for images of either kind, which are kept as they are
 abbrev pub built : Checked Kind → Result Kind Refusal
 built (Ok V2s2) = Ok V2s2
 built (Ok V2s2List) = Err (NotBuilt part.Manifest)
-built (Ok Oci) = Err (NotBuilt part.Manifest)
+built (Ok Oci) = Ok Oci
 built (Ok OciIndex) = Err (NotBuilt part.Manifest)
 built (Err path) = Err (ManifestInvalid (pointer path))
 

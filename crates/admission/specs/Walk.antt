@@ -8,17 +8,24 @@ use Rattle.transports.specs.declared.plan.CopyPlan.{CopyPlan}
 use Rattle.transports.specs.declared.refusal.Refusal.{Refusal}
 use Rattle.transports.specs.StepEnds.{reading}
 use Rattle.transports.specs.Given.{SignaturesEnd}
+use Rattle.transports.specs.Stores.{store_of}
 use Rattle.transports.specs.Found.{found}
-use Rattle.admission.specs.declared.take.Taken.{Taken}
 use Rattle.admission.specs.Parts.{kind_in, image_in}
-use Rattle.admission.specs.Admission.{admitted_of}
+use Rattle.admission.specs.GateTold.{GateStep, on_lane}
+use Rattle.admission.specs.Judged.{Submission, judging}
+use Rattle.admission.specs.Taken.{TakenImage}
 
--- source and gate, by the list that the policy has for the image as it is named
-unfoldable pub admission : CopyPlan → Settings → PolicyLists → LaneStep Refusal Taken
-admission plan conf policy = do
+-- what is put to the gate: the plan's image, from the source that answers, with its signatures
+unfoldable pub submission : CopyPlan → Settings → LaneStep Refusal Submission
+submission plan conf = do
   it ← found plan conf
   kind ← given (kind_in it.found.fetched)
   image ← given (image_in kind it.found.fetched)
-  signatures ← reading (SignaturesEnd it.found.from None)
-  admitted ← given (admitted_of policy it.place it.found.fetched kind image signatures)
-  given (Ok (record { from = it.found.from; image = admitted }))
+  signatures ← reading (SignaturesEnd it.found.from (store_of plan it.place it.found.fetched.bytes) None)
+  given (Ok (record { from = it.found.from; place = it.place; manifest = it.found.fetched.bytes; kind = kind; image = image; signatures = signatures }))
+
+-- source and gate, by the list that the policy has for the image as it is named
+unfoldable pub admission : CopyPlan → Settings → PolicyLists → GateStep TakenImage
+admission plan conf policy = do
+  s ← on_lane (submission plan conf)
+  judging plan policy s

@@ -1,26 +1,31 @@
 // An image that the policy admits.
-ghost use Rattle.std.specs.Prelude.{◌≡◌};
+ghost use Rattle.std.specs.Prelude.{◌≡◌, IfOk};
 ghost use Rattle.json_tree.specs.Tree.{tree};
-ghost use Rattle.skopeo_outside.specs.Steps.{Says};
+ghost use Rattle.skopeo_outside.specs.Steps.{Ends};
 ghost use Rattle.manifest_v2s2.specs.IsImage.{SaysImage};
-ghost use Rattle.transports.specs.Courses.{lane_course};
-ghost use Rattle.admission.specs.Admission.{admitted_of, IsAdmitted, HasJobs};
+ghost use Rattle.transports.specs.Has.{IsUntouched};
+ghost use Rattle.transports.specs.Given.{Spares};
+ghost use Rattle.admission.specs.GateTold.{gate_course, told_at};
+ghost use Rattle.admission.specs.Admission.{IsAdmitted, HasJobs};
+ghost use Rattle.admission.specs.Judged.{judging, AsksOnly};
 
-use crate::gate::judge_image;
+use crate::gate::refusal_of;
+use crate::read::Submission;
+use crate::take::Taken;
 use digest_reader::Job;
 use image_ref::Place;
 use manifest_convert::blobs_of;
 use manifest_v2s2::{Image, Kind};
 use policy_file::Policy;
-use skopeo_outside::{Fetched, Many};
+use skopeo_outside::{Files, Helper, Lane, Many, Text, Wire};
 use std::alloc::Global;
 use std::marker::Model;
 use std::snapshot::Snapshot;
-use transports::Refusal;
+use transports::{CopyPlan, Refusal};
 
 /// An image that the policy admits as it is named: the bytes that were judged, and what they are. Only `admit` makes one.
 #[derive(Drop)]
-pub struct Admitted {
+pub struct Admitted<F: Files, H: Helper> {
     manifest: Many<u8>,
     kind: Kind,
     jobs: Many<Job>,
@@ -28,57 +33,46 @@ pub struct Admitted {
     image: Snapshot<Image>,
     policy: Snapshot<Policy>,
     place: Snapshot<Place>,
+    plan: Snapshot<CopyPlan>,
+    files: Snapshot<F>,
+    before: Snapshot<H>,
+    after: Snapshot<H>,
 }
 
-impl Model for Admitted {
+impl<F: Files, H: Helper> Model for Admitted<F, H> {
     ghost use Rattle.admission.specs.Admission.{Admission, IsSound};
 
     ghost Value = { Admission };
 
-    ghost view = { λ a. record { policy = a.policy.value; place = a.place.value; manifest = a.manifest; kind = a.kind; image = a.image.value; jobs = a.jobs; signatures = a.signatures } };
+    ghost view = { λ a. record { policy = a.policy.value; place = a.place.value; manifest = a.manifest; kind = a.kind; image = a.image.value; jobs = a.jobs; signatures = a.signatures; program = a.plan.value.verifier; cwd = a.plan.value.cwd; files = F.tree a.files.value; before = H.runs a.before.value; after = H.runs a.after.value } };
 
-    ghost invariant = { λ a. IsSound (record { policy = a.policy.value; place = a.place.value; manifest = a.manifest; kind = a.kind; image = a.image.value; jobs = a.jobs; signatures = a.signatures }) };
+    ghost invariant = { λ a. IsSound (record { policy = a.policy.value; place = a.place.value; manifest = a.manifest; kind = a.kind; image = a.image.value; jobs = a.jobs; signatures = a.signatures; program = a.plan.value.verifier; cwd = a.plan.value.cwd; files = F.tree a.files.value; before = H.runs a.before.value; after = H.runs a.after.value }) };
 }
 
 /// No image has more layers.
 const MOST: usize = 4_294_967_278;
 
-/// Judges an image by the list that the policy has for it as it is named. No files and no wires are at hand here: what
-/// comes out are the bytes that were judged.
-#[tactic(auto, using(crate::proofs::AdmitLemmas::judged_stops, crate::proofs::AdmitLemmas::judged_goes, crate::proofs::AdmitLemmas::memory_says, crate::proofs::AdmitLemmas::is_sound))]
-pub fn admit(
+/// Judges an image by the list that the policy has for it as it is named; signatures are asked of the plan's verifier.
+pub(crate) fn admit<W: Wire, F: Files, H: Helper>(
     alloc: Global,
+    plan: &CopyPlan,
     policy: &Policy,
-    place: &Place,
-    fetched: Fetched,
-    kind: Kind,
-    image: Image,
-    signatures: Many<Many<u8>>,
-) -> Result<Admitted, Refusal>
-    requires image { SaysImage kind (tree fetched.bytes) image }
-    ensures says { Says lane_course (admitted_of policy.now place.now fetched kind image signatures) result }
+    submission: Submission,
+    lane: &mut Lane<W, F>,
+    helper: &mut H,
+) -> Result<Taken<F, H>, Refusal>
+    requires image { SaysImage submission.kind (tree submission.manifest) submission.image }
+    ensures ends { Ends gate_course (judging plan.now policy.now submission)
+        (told_at lane.old (H.runs helper.old) (H.faults helper.old))
+        (told_at lane.new (H.runs helper.new) (H.faults helper.new)) result }
+    ensures untouched { IsUntouched lane.old lane.new }
+    ensures spares { Spares submission.from lane.old lane.new }
+    ensures from { IfOk result (λ it. it.from ≡ submission.from) }
+    ensures asks { AsksOnly plan.now (H.runs helper.old) (H.runs helper.new) }
 {
-    if let Err(e) = judge_image(alloc, policy, place) {
-        return Err(e);
-    }
-    if image.layers.len() > MOST {
-        return Err(Refusal::Memory);
-    }
-    let Ok(jobs) = blobs_of(alloc, &image) else {
-        return Err(Refusal::Memory);
-    };
-    Ok(Admitted {
-        manifest: fetched.bytes,
-        kind,
-        jobs,
-        signatures,
-        image: Snapshot::of(&image),
-        policy: Snapshot::of(policy),
-        place: Snapshot::of(place),
-    })
+    todo
 }
-
-impl Admitted {
+impl<F: Files, H: Helper> Admitted<F, H> {
     /// The bytes of its manifest.
     pub fn manifest(&self) -> &[u8]
         ensures is { result.now ≡ self.now.manifest }

@@ -1,67 +1,32 @@
-// The gate: whether the list that a policy has for an image holds.
-ghost use Rattle.std.specs.Prelude.{◌≡◌, ◌<◌, ◌-◌, ◌^◌, IfOk, length};
-ghost use Rattle.std.specs.Option.{option_map};
-ghost use Rattle.skopeo_outside.specs.Steps.{Says};
+// The gate over what was read of an image.
+ghost use Rattle.std.specs.Prelude.{◌≡◌, ◌-◌, ◌^◌, ◌<◌, ⊤, Result, length};
 ghost use Rattle.policy_scope.specs.Chosen.{chosen};
-ghost use Rattle.transports.specs.Courses.{lane_course};
-ghost use Rattle.admission.specs.Admission.{judged, judged_by};
+ghost use Rattle.policy_gate.specs.Gate.{Ends as GateEnds};
+ghost use Rattle.policy_gate.specs.Calls.{Gained, GateCause};
+ghost use Rattle.admission.specs.Judged as judged;
+ghost use Rattle.admission.specs.Judged.{case_in, AsksOnly};
 
-use image_ref::Place;
-use policy_file::{Policy, Requirement};
+use crate::read::Submission;
+use policy_file::Policy;
+use policy_gate::GateFault;
 use policy_scope::{Identity, choose};
-use skopeo_outside::{Memory, Text};
+use skopeo_outside::{Files, Helper, Memory};
 use std::alloc::Global;
-use transports::{Part, Refusal, Why};
+use transports::{CopyPlan, Refusal};
 
 /// No list has more requirements.
 const MOST: usize = 4_294_967_279;
 
-/// The scope of a list.
-fn scope_text(alloc: Global, scope: Option<&str>) -> Result<Option<Text>, Memory>
-    ensures is { IfOk result (λ text. text ≡ option_map (λ s. s.now) scope.entry) }
+/// The refusal that a fault of the gate is, with the counts of the files' and the helper's faults.
+pub(crate) fn refusal_of(fault: GateFault, files: u64, helper: u64) -> Refusal
+    ensures is { result ≡ judged.refusal_of files helper fault }
 {
-    match scope {
-        Some(scope) => Ok(Some(Text::copy_of(alloc, scope)?)),
-        None => Ok(None),
+    match fault {
+        GateFault::Rejected { scope, place, why } => Refusal::Rejected(scope, place, why),
+        GateFault::Garbled(status, front) => Refusal::Garbled(status, front),
+        GateFault::TooLarge(what, length) => Refusal::TooLarge(what, length),
+        GateFault::Files => Refusal::Files(files),
+        GateFault::Helper => Refusal::Helper(helper),
+        GateFault::Memory => Refusal::Memory,
     }
-}
-
-/// Looks at each requirement of a list in order, up to the first that does not hold.
-#[tactic(auto, using(crate::proofs::GateLemmas::judged_on, crate::proofs::GateLemmas::judged_at), unfolding(skopeo_outside::specs::Steps::Says, transports::specs::Courses::lane_course))]
-pub(crate) fn judge_list(
-    alloc: Global,
-    scope: Option<&str>,
-    list: &[Requirement],
-) -> Result<(), Refusal>
-    requires few { length list.now < 2 ^ 32 - 16 }
-    ensures says { Says lane_course (judged (option_map (λ s. s.now) scope.entry) 1 list.now) result }
-{
-    for (place, requirement) in list.iter().enumerate() {
-        match requirement {
-            Requirement::Accept => {}
-            Requirement::Reject => {
-                let scope = scope_text(alloc, scope)?;
-                return Err(Refusal::Rejected(scope, place as u32 + 1, Why::Reject));
-            }
-            Requirement::SignedBy(_, _) => return Err(Refusal::NotBuilt(Part::Policy)),
-            Requirement::Sigstore => {
-                let scope = scope_text(alloc, scope)?;
-                return Err(Refusal::Rejected(scope, place as u32 + 1, Why::Sigstore));
-            }
-        }
-    }
-    Ok(())
-}
-
-/// Judges the image at a place by the list that the policy has for it.
-#[tactic(auto, unfolding(skopeo_outside::specs::Steps::Says, transports::specs::Courses::lane_course))]
-pub(crate) fn judge_image(alloc: Global, policy: &Policy, place: &Place) -> Result<(), Refusal>
-    ensures says { Says lane_course (judged_by (chosen policy.now place.now)) result }
-{
-    let identity = Identity::of(alloc, place)?;
-    let chosen = choose(policy, &identity);
-    if chosen.list.len() > MOST {
-        return Err(Refusal::Memory);
-    }
-    judge_list(alloc, chosen.scope, chosen.list)
 }

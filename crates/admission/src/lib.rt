@@ -4,6 +4,7 @@
 mod admitted;
 mod gate;
 mod parts;
+mod read;
 mod take;
 mod walk;
 

@@ -26,7 +26,7 @@ pub(crate) fn require_kind(alloc: Global, fetched: &Fetched) -> Result<Kind, Ref
     ) {
         Ok(Kind::V2s2) => Ok(Kind::V2s2),
         Ok(Kind::V2s2List) => Err(Refusal::NotBuilt(Part::Manifest)),
-        Ok(Kind::Oci) => Err(Refusal::NotBuilt(Part::Manifest)),
+        Ok(Kind::Oci) => Ok(Kind::Oci),
         Ok(Kind::OciIndex) => Err(Refusal::NotBuilt(Part::Manifest)),
         Err(ManifestFault::Memory) => Err(Refusal::Memory),
         Err(ManifestFault::Member(member)) => Err(Refusal::ManifestInvalid(member)),
