@@ -1,7 +1,8 @@
 -- How the copy of an image ends: its steps in order, the first refusal counting. Each step says which ends it may come to
 -- between what was told before it and behind it; the walk puts them one after the other.
 use Rattle.std.specs.Prelude.{◌≡◌, List, Result, Ok, Err, ⊤}
-use Rattle.skopeo_outside.specs.Steps.{◌>>=◌, given}
+use Rattle.skopeo_outside.specs.Seen.{OnFirst, KeepsFrom}
+use Rattle.skopeo_outside.specs.Steps.{◌>>=◌, given, Ends}
 use Rattle.skopeo_outside.specs.OnLanes.{SeenStep, on_first}
 use Rattle.digest_reader.specs.declared.job.Job.{Job}
 use Rattle.policy_file.specs.PolicyLists.{PolicyLists}
@@ -16,6 +17,7 @@ use Rattle.transports.specs.Courses.{lane_course}
 use Rattle.transports.specs.StepEnds.{taking, putting}
 use Rattle.transports.specs.Fair.{AllWork}
 use Rattle.admission.specs.Admission.{Admission}
+use Rattle.admission.specs.GateTold.{GateStep, gate_course}
 use Rattle.admission.specs.Walk.{admission}
 use Rattle.copy_jobs.specs.Secured.{JobsEnd}
 use Rattle.copy_engine.specs.Report.{copied_of}
@@ -24,6 +26,12 @@ use Rattle.copy_engine.specs.Report.{copied_of}
 abbrev pub forget : {A : Type 0} → Result A Refusal → Result ⊤ Refusal
 forget (Ok x) = Ok tt
 forget (Err e) = Err e
+
+-- a step of the first lane and the helper, in its course; the other lanes rest
+unfoldable pub at_gate : {A : Type 0} → GateStep A → SeenStep Refusal A
+at_gate step old new r =
+    OnFirst (λ a b. Ends gate_course step (record { lane = a; helper = old.helper }) (record { lane = b; helper = new.helper }) r) old.lanes new.lanes
+    × KeepsFrom 1 old.lanes new.lanes
 
 -- all jobs, on the lanes that are used; each lane works at the destination alone
 unfoldable pub securing : Source → Dest → List Job → SeenStep Refusal ⊤
@@ -47,5 +55,5 @@ placing from to image = do
 unfoldable pub image_end : CopyPlan → Settings → PolicyLists → SeenStep Refusal Copied
 image_end plan conf policy = do
   to ← given (dest_at plan.dest)
-  it ← on_first lane_course (admission plan conf policy)
+  it ← at_gate (admission plan conf policy)
   placing it.from to it.image
