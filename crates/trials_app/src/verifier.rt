@@ -21,7 +21,8 @@ fn ended_with_zeros(alloc: Global, status: i32, count: usize) -> Result<Ended, M
     })
 }
 
-/// The end of a verifier's run: a signature `KEY:PAYLOAD` is good where KEY is one of the keys. What is no question has status 2.
+/// The end of a verifier's run: a signature `KEY:PAYLOAD` is good where KEY is one of the keys. What
+/// is no question has status 2.
 fn verified(alloc: Global, input: &[u8]) -> Result<Ended, Memory> {
     match judge(alloc, input)? {
         Judgement::NoQuestion => ended(alloc, 2, ""),
@@ -43,7 +44,7 @@ fn told(program: &str) -> Option<(i32, &'static str)> {
         "/w/one" => Some((1, "")),
         "/w/three" => Some((
             3,
-            "no keyring: the first sixty-four bytes of this answer are told, and the others are not",
+            "no keyring: the first sixty-four bytes of this answer are told, and no more",
         )),
         "/w/three-good" => Some((3, "good 2\n{}")),
         "/w/mute" => Some((0, "")),
