@@ -106,13 +106,13 @@ fn registry_of<R: AllocGlobal + Files>(rt: &R, framing: &str) -> Result<MapPeer,
     Ok(peer)
 }
 
-/// A word is `HOST:PORT=FRAMING` for a registry, or `HOST:PORT/TARGET=BYTES` for an answer.
+/// A word is `HOST:PORT=FRAMING` for a registry, or `HOST:PORT/TARGET=BYTES` for an answer, cut at its last `=`.
 fn put_word<R: AllocGlobal + Files>(
     rt: &R,
     network: &mut Network,
     word: &str,
 ) -> Result<(), Memory> {
-    let Some((place, name)) = word.split_once("=") else {
+    let Some((place, name)) = word.rsplit_once('=') else {
         return Err(Memory);
     };
     if place.contains('/') {
