@@ -85,12 +85,6 @@ leads_as r P Q go old new l = record { count = l.count; few = l.few; hops = l.ho
 leads_more : (r : Request) (P : Request → Conversation → Type 0) (old new : Conversations) → LeadsTo r P old new → Told AreMore old new
 leads_more r P old new l = gains_more (l.hops ++ l.talk ∷ []) old new l.told
 
--- ---- no signatures are stored
-
-pub no_signatures : (r : Reference) (part : Option (List ℕ)) (a : LaneTold) (signatures : List (List ℕ)) → signatures ≡ [] → Ends lane_course (reading (SignaturesEnd (source.Registry r) part)) a a (Ok signatures)
-unfolding Ends lane_course SignaturesEnd
-no_signatures r part a signatures is = record { later = later_same a; ends = ((ap Ok is, later_same a), record { files = refl; to = refl }) }
-
 -- ---- no connection is open
 
 pub rests_folder : (path : List ℕ) (now : LaneTold) → Rests (source.Folder path) now
