@@ -10,8 +10,7 @@ use Rattle.http_message.specs.declared.fault.ExchangeFault.{ExchangeFault}
 use Rattle.http_message.specs.declared.fault.ExchangeFault.TheVariants as long
 use Rattle.registry_http.specs.declared.fault.RegistryFault.{RegistryFault}
 use Rattle.registry_http.specs.declared.fault.RegistryFault.TheVariants as fault
-use Rattle.registry_http.specs.Lookaside.{AreGot}
-use Rattle.registry_http.specs.Lookaside.AreGot.{last, want, next}
+use Rattle.registry_http.specs.Lookaside.{AreGot, last, want, next}
 use Rattle.registry_http.specs.Steps.{CountsStep}
 use Rattle.transports.specs.declared.source.Source.TheVariants as source
 use Rattle.transports.specs.declared.refusal.Refusal.{Refusal}
