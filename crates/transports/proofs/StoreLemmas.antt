@@ -42,6 +42,19 @@ pub stored_spares : (s : StoreAt) (r : Reference) (a b : LaneTold) (x : Result (
 unfolding Spares
 stored_spares s r a b x stored = stored_goes s a b x stored
 
+-- by the answer of a call
+pub stored_by : (s : StoreAt) (base path digest : List ℕ) (a b : LaneTold) (answer : Result (List (List ℕ)) RegistryFault) (r : Result (List (List ℕ)) Refusal) → base ≡ s.base → path ≡ s.path → digest ≡ s.digest → OnSource a b
+    → AreGot base path digest [] a.from.talks b.from.talks answer → CountsStep a.from.faults b.from.faults answer → r ≡ by_store b.from.faults answer → AreStored s a b r
+stored_by s base path digest a b answer r is_base is_path is_digest on got counts is = record {
+  on = on;
+  answer = answer;
+  got = subst (λ x. AreGot s.base s.path x [] a.from.talks b.from.talks answer) is_digest
+      (subst (λ x. AreGot s.base x digest [] a.from.talks b.from.talks answer) is_path
+      (subst (λ x. AreGot x path digest [] a.from.talks b.from.talks answer) is_base got));
+  counts = counts;
+  is = is;
+}
+
 -- ---- what a free refusal shows
 
 err_same : {A E : Type 0} (x y : E) → ◌≡◌ {A = Result A E} (Err x) (Err y) → x ≡ y
