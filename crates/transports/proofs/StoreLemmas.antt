@@ -5,12 +5,12 @@ use Rattle.skopeo_outside.specs.Wire.{Conversations}
 use Rattle.skopeo_outside.specs.LaneTold.{LaneTold, AreMore, IsLater}
 use Rattle.skopeo_outside.specs.LaneLaws.{later_same, more_then, more_same, told_then, told_same}
 use Rattle.skopeo_outside.specs.Steps.{Ends, EndsBy}
-use Rattle.image_ref.specs.Reference.{Reference}
+use Rattle.image_ref.specs.Reference.{Reference, Named, IsPath, full}
 use Rattle.http_message.specs.declared.fault.ExchangeFault.{ExchangeFault}
 use Rattle.http_message.specs.declared.fault.ExchangeFault.TheVariants as long
 use Rattle.registry_http.specs.declared.fault.RegistryFault.{RegistryFault}
 use Rattle.registry_http.specs.declared.fault.RegistryFault.TheVariants as fault
-use Rattle.registry_http.specs.Lookaside.{AreGot, last, want, next}
+use Rattle.registry_http.specs.Lookaside.{is_base, AreGot, last, want, next}
 use Rattle.registry_http.specs.Steps.{CountsStep}
 use Rattle.transports.specs.declared.source.Source.TheVariants as source
 use Rattle.transports.specs.declared.refusal.Refusal.{Refusal}
@@ -19,10 +19,22 @@ use Rattle.transports.specs.Courses.{lane_course}
 use Rattle.transports.specs.StepEnds.{reading}
 use Rattle.transports.specs.Given.{SignaturesEnd, Spares}
 use Rattle.transports.specs.Has.{IsUntouched}
-use Rattle.transports.specs.Stores.{StoreAt, AreStored, exchange_refusal, stored_refusal, by_store}
+use Rattle.transports.specs.Stores.{StoreAt, IsStore, AreStored, exchange_refusal, stored_refusal, by_store}
 use Rattle.transports.specs.Tried.{OnSource}
+use Rattle.transports.proofs.AskLemmas.{is_path}
 use Rattle.transports.proofs.RegistryLemmas.{gains_more, later_source, untouched_source}
 use Rattle.transports.proofs.WithinLemmas.{within_now}
+
+-- ---- what a store is
+
+pub are_parts : (r : Reference) (base : List ℕ) (s : StoreAt) → Named (full r) r → is_base base ≡ true → s.base ≡ base → s.path ≡ r.path → IsStore s
+are_parts r base s named passes is_base_of is_path_of = record { base = subst (λ x. is_base x ≡ true) (sym is_base_of) passes; path = is_path r s.path named is_path_of }
+
+pub base_of : (s : StoreAt) (base : List ℕ) → IsStore s → base ≡ s.base → is_base base ≡ true
+base_of s base store is = subst (λ x. is_base x ≡ true) (sym is) store.base
+
+pub path_of : (s : StoreAt) (path : List ℕ) → IsStore s → path ≡ s.path → IsPath path
+path_of s path store is = subst IsPath (sym is) store.path
 
 -- ---- how a lane goes on
 

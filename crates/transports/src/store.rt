@@ -1,6 +1,6 @@
 // Where the signatures of an image are stored apart from it.
 ghost use Rattle.std.specs.Prelude.{◌≡◌, Some, IfOk};
-ghost use Rattle.transports.specs.Stores.{store_in, store_of};
+ghost use Rattle.transports.specs.Stores.{IsStore, store_in, store_of};
 
 use crate::plan::CopyPlan;
 use digest_reader::digest_of;
@@ -30,7 +30,6 @@ impl Model for Store {
 }
 
 /// The store of the signatures of an image at a registry, as it is named, by a base.
-#[tactic(auto, using(crate::proofs::AskLemmas::is_path))]
 fn store_at(
     alloc: Global,
     base: &str,
@@ -73,7 +72,8 @@ pub fn store_of(
 impl Store {
     /// Where it begins.
     pub(crate) fn base(&self) -> &str
-        ensures { result.now ≡ self.now.base }
+        ensures value { result.now ≡ self.now.base }
+        ensures store { IsStore self.now }
     {
         self.base.as_str()
     }
