@@ -39,9 +39,9 @@ path_of s path store is = subst IsPath (sym is) store.path
 -- ---- how a lane goes on
 
 got_more : (base path digest : List ℕ) (before : List (List ℕ)) (old new : Conversations) (result : Result (List (List ℕ)) RegistryFault) → AreGot base path digest before old new result → Told AreMore old new
-got_more base path digest before old new result (last before old new result answer asks is) = gains_more (asks.hops ++ asks.gained) old new asks.told
-got_more base path digest before old new result (want before old new answer asks) = gains_more (asks.hops ++ asks.gained) old new asks.told
-got_more base path digest before old new result (next before more old mid new result answer asks is rest) =
+got_more base path digest _ _ _ _ (last before old new result answer asks is) = gains_more (asks.hops ++ asks.gained) old new asks.told
+got_more base path digest _ _ _ _ (want before old new answer asks) = gains_more (asks.hops ++ asks.gained) old new asks.told
+got_more base path digest _ _ _ _ (next before more old mid new result answer asks is rest) =
     told_then AreMore AreMore AreMore more_then old mid new (gains_more (asks.hops ++ asks.gained) old mid asks.told) (got_more base path digest more mid new result rest)
 
 pub stored_goes : (s : StoreAt) (a b : LaneTold) (r : Result (List (List ℕ)) Refusal) → AreStored s a b r → IsLater a b

@@ -9,5 +9,6 @@ pub get_signatures-answer-requires-clause-path : goal.get_signatures-answer-requ
 get_signatures-answer-requires-clause-path g c = path_of c.args.store.now _ c.base.ensures.store c.path.ensures
 
 pub returns : goal.returns
-returns g c =
-    stored_by c.args.store.now _ _ _ c.args.lane.now _ c.get_signatures-answer.result c.by_store.result c.base.ensures.value c.path.ensures c.digest.ensures (search rules) (search rules) (search rules) (search rules)
+returns g c = record {
+  stored = stored_by c.args.store.now _ _ _ c.args.lane.now _ c.get_signatures-answer.result c.by_store.result c.base.ensures.value c.path.ensures c.digest.ensures (search rules) (search rules) (search rules) (search rules);
+}
