@@ -1,9 +1,9 @@
 -- The signatures of an image that are stored apart from it.
-use Rattle.std.proofs.Common.{◌≡◌, ◌++◌, ◌≤◌, [], ℕ, Bool, true, false, List, Option, Some, None, Result, Ok, Err, inl, refl, sym, ap, subst}
+use Rattle.std.proofs.Common.{◌≡◌, ◌++◌, [], ℕ, Bool, true, false, List, Option, Some, None, Result, Ok, Err, inl, refl, sym, ap, subst}
 use Rattle.skopeo_outside.specs.Outside.{Told}
 use Rattle.skopeo_outside.specs.Wire.{Conversations}
 use Rattle.skopeo_outside.specs.LaneTold.{LaneTold, AreMore, IsLater}
-use Rattle.skopeo_outside.specs.LaneLaws.{later_same, more_then, more_same, told_then, told_same}
+use Rattle.skopeo_outside.specs.LaneLaws.{later_same, more_then, told_then}
 use Rattle.skopeo_outside.specs.Steps.{Ends, EndsBy}
 use Rattle.image_ref.specs.Reference.{Reference, Named, IsPath, full}
 use Rattle.http_message.specs.declared.fault.ExchangeFault.{ExchangeFault}
