@@ -45,16 +45,22 @@ path_is host p some all = by (bytes_eq host (codes "docker.io") && lacks slash (
     }
     by false = record { components = p.components; joined = refl; some = some; are_components = all }
 
+pub is_path : (r : Reference) (path : List ℕ) → Named (full r) r → path ≡ r.path → IsPath path
+is_path r path named is =
+    let p = named.0 in
+    let a = named.1 in
+    let q : path ≡ normal_path (normal_host p.domain) (path_of p) = is ∙ ap (λ (x : Reference). x.path) a.normal in
+    subst IsPath (sym q) (path_is (normal_host p.domain) p a.some a.components)
+
 pub is_asked : (r : Reference) (host path : List ℕ) → Named (full r) r → host ≡ r.host → path ≡ r.path → IsAsked (record { host = host; path = path; insecure = true })
-is_asked r host path named is_host is_path =
+is_asked r host path named is_host the_path =
     let p = named.0 in
     let a = named.1 in
     let h : host ≡ normal_host p.domain = is_host ∙ ap (λ (x : Reference). x.host) a.normal in
-    let q : path ≡ normal_path (normal_host p.domain) (path_of p) = is_path ∙ ap (λ (x : Reference). x.path) a.normal in
     record {
       insecure = refl;
       host = subst (λ x. is_domain x ≡ true) (sym h) (host_of p.domain p.components a.host);
-      path = subst IsPath (sym q) (path_is (normal_host p.domain) p a.some a.components);
+      path = is_path r path named the_path;
     }
 
 pub is_named_tag : (r : Reference) (tag text : List ℕ) → Named (full r) r → r.tag ≡ Some tag → text ≡ tag → IsTagOrDigest text

@@ -25,6 +25,7 @@ use Rattle.transports.specs.Refusals.{is_free}
 use Rattle.transports.specs.Courses.{lane_course, shows_earlier}
 use Rattle.transports.specs.StepEnds.{reading}
 use Rattle.transports.specs.Given.{SameIn, Spares, ManifestEnds, SignaturesEnd, manifest_in, refusal_of, by_folder}
+use Rattle.transports.specs.Stores.{StoreAt}
 use Rattle.transports.specs.Has.{IsUntouched}
 use Rattle.transports.specs.Calls.{by_stop, IsRefused, OnFiles}
 
@@ -82,10 +83,10 @@ manifest_ended path part file a b r on same le is says =
 
 -- ---- signatures
 
-pub signatures_ended : (path : List ℕ) (part : Option (List ℕ)) (a b : LaneTold) (signatures : List (List ℕ)) → OnFiles a b → b.files.tree ≡ a.files.tree → a.files.faults ≤ b.files.faults
-    → IfSome a.files.tree (λ t. layout.Answers (AreSignaturesIn t path part) (Ok signatures)) → Ends lane_course (reading (SignaturesEnd (Folder path) part)) a b (Ok signatures)
+pub signatures_ended : (path : List ℕ) (store : Option StoreAt) (part : Option (List ℕ)) (a b : LaneTold) (signatures : List (List ℕ)) → OnFiles a b → b.files.tree ≡ a.files.tree → a.files.faults ≤ b.files.faults
+    → IfSome a.files.tree (λ t. layout.Answers (AreSignaturesIn t path part) (Ok signatures)) → Ends lane_course (reading (SignaturesEnd (Folder path) store part)) a b (Ok signatures)
 unfolding Ends lane_course SignaturesEnd
-signatures_ended path part a b signatures on same le read = record { later = later_by a b on same le; ends = (by a.files.tree read, untouched_by a b on same) }
+signatures_ended path store part a b signatures on same le read = record { later = later_by a b on same le; ends = (by a.files.tree read, untouched_by a b on same) }
   where
     by : (x : Option Tree) → IfSome x (λ t. layout.Answers (AreSignaturesIn t path part) (Ok signatures)) → IfSome x (λ t. Ok signatures ≡ by_folder path (signatures_in (numbered t path (prefix_of part))))
     by None read = tt
@@ -119,10 +120,10 @@ fault_ends {A} {B} path step a b given r later cause is end = record { later = l
     of (fault.RefAmbiguous n) cause is end = either is
     of (fault.Digest x y) cause is end = either is
 
-pub signatures_refused : {B : Type 0} (path : List ℕ) (part : Option (List ℕ)) (a b : LaneTold) (given : LayoutFault) (r : Refusal) → OnFiles a b → b.files.tree ≡ a.files.tree → layout.LayoutCause {A = B} a.files.faults b.files.faults (Err given)
-    → IfSome a.files.tree (λ t. layout.Answers (AreSignaturesIn t path part) (Err given)) → IsRefused path b.files.faults given r → Ends lane_course (reading (SignaturesEnd (Folder path) part)) a b (Err r)
+pub signatures_refused : {B : Type 0} (path : List ℕ) (store : Option StoreAt) (part : Option (List ℕ)) (a b : LaneTold) (given : LayoutFault) (r : Refusal) → OnFiles a b → b.files.tree ≡ a.files.tree → layout.LayoutCause {A = B} a.files.faults b.files.faults (Err given)
+    → IfSome a.files.tree (λ t. layout.Answers (AreSignaturesIn t path part) (Err given)) → IsRefused path b.files.faults given r → Ends lane_course (reading (SignaturesEnd (Folder path) store part)) a b (Err r)
 unfolding SignaturesEnd
-signatures_refused path part a b given r on same cause read is = fault_ends path (reading (SignaturesEnd (Folder path) part)) a b given r (later_by a b on same cause.later) cause is (λ bound. (by bound a.files.tree read, untouched_by a b on same))
+signatures_refused path store part a b given r on same cause read is = fault_ends path (reading (SignaturesEnd (Folder path) store part)) a b given r (later_by a b on same cause.later) cause is (λ bound. (by bound a.files.tree read, untouched_by a b on same))
   where
     by : layout.is_free given ≡ false → (x : Option Tree) → IfSome x (λ t. layout.Answers (AreSignaturesIn t path part) (Err given)) → IfSome x (λ t. Err (refusal_of path given) ≡ by_folder path (signatures_in (numbered t path (prefix_of part))))
     by bound None read = tt

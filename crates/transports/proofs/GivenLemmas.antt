@@ -22,9 +22,10 @@ use Rattle.transports.specs.declared.dest.Dest.TheVariants as dest
 use Rattle.transports.specs.declared.refusal.Refusal.{Refusal}
 use Rattle.transports.specs.Places.{AreApart}
 use Rattle.transports.specs.Blobs.{looked_at}
-use Rattle.transports.specs.Given.{SameIn, Spares, ManifestEnds, SignaturesEnd, BlobEnds, IsFrontIn, GaveFront, IsReadAt, HasGiven}
+use Rattle.transports.specs.Given.{SameIn, Spares, ManifestEnds, StoredEnd, SignaturesEnd, BlobEnds, IsFrontIn, GaveFront, IsReadAt, HasGiven}
 use Rattle.transports.specs.Registries.{request_of, LeadsTo, BeginsWith, BlobAt, IsReadTo, IsReading}
 use Rattle.transports.specs.Tried.{AsksManifest}
+use Rattle.transports.specs.Stores.{StoreAt, AreStored}
 use Rattle.transports.specs.Has.{OnlyAtDest}
 use Rattle.transports.specs.Next.{IsReadyOn}
 use Rattle.transports.proofs.WithinLemmas.{within_earlier, within_later}
@@ -68,10 +69,14 @@ manifest_later (Registry reference) None a b c (Ok fetched) ends later = within_
 manifest_later (Registry reference) None a b c (Err e) ends later = absurd ends
 manifest_later (Registry reference) (Some digest) a b c r ends later = absurd ends
 
-pub signatures_later : (s : Source) (part : Option (List ℕ)) (a b c : LaneTold) (r : Result (List (List ℕ)) Refusal) → SignaturesEnd s part a b r → IsLater b c → SignaturesEnd s part a c r
+stored_later : (store : Option StoreAt) (a b c : LaneTold) (r : Result (List (List ℕ)) Refusal) → StoredEnd store a b r → IsLater b c → StoredEnd store a c r
+stored_later None a b c r ends later = (ends.0, later_then a b c ends.1 later)
+stored_later (Some store) a b c r ends later = within_later (λ x y. AreStored store x y r) a b c ends later
+
+pub signatures_later : (s : Source) (store : Option StoreAt) (part : Option (List ℕ)) (a b c : LaneTold) (r : Result (List (List ℕ)) Refusal) → SignaturesEnd s store part a b r → IsLater b c → SignaturesEnd s store part a c r
 unfolding SignaturesEnd
-signatures_later (Folder path) part a b c r ends later = ends
-signatures_later (Registry reference) part a b c r ends later = (ends.0, later_then a b c ends.1 later)
+signatures_later (Folder path) store part a b c r ends later = ends
+signatures_later (Registry reference) store part a b c r ends later = stored_later store a b c r ends later
 
 -- first bytes that a source gave it gave still, where it was spared
 pub front_later : (s : Source) (job : Job) (a b c : LaneTold) (given : List ℕ) → GaveFront s job a b given → Spares s b c → GaveFront s job a c given

@@ -6,6 +6,7 @@ pub mod TriedLemmas
 pub mod NameLemmas
 pub mod FoundLemmas
 pub mod SameLemmas
+pub mod StoreLemmas
 pub mod GivenLemmas
 pub mod HasLemmas
 pub mod FolderLemmas

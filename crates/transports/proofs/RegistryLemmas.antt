@@ -1,12 +1,11 @@
 -- What one exchange with a registry gives, and an answer that is read piece by piece.
-use Rattle.std.proofs.Common.{◌≡◌, ◌⊎◌, ◌∙◌, ◌+◌, ◌-◌, ◌≤◌, ◌==◌, ◌||◌, ◌++◌, ◌∷◌, [], ℕ, Bool, true, false, cond, List, Option, Some, None, Result, Ok, Err, length, take, length-append, append_assoc, inl, inr, refl, sym, ap, subst, arith}
+use Rattle.std.proofs.Common.{◌≡◌, ◌⊎◌, ◌∙◌, ◌+◌, ◌-◌, ◌≤◌, ◌==◌, ◌||◌, ◌++◌, ◌∷◌, [], ℕ, Bool, true, false, cond, List, Some, None, Result, Ok, Err, length, take, length-append, append_assoc, inl, inr, refl, sym, ap, subst, arith}
 use Rattle.std.proofs.lemmas.List.{length-take-le}
 use Rattle.std.proofs.lemmas.Bool.{eqb-true, eq-eqb}
 use Rattle.skopeo_outside.specs.Outside.{Told, Rose}
 use Rattle.skopeo_outside.specs.Wire.{Conversation, Conversations, Gains, with_received}
 use Rattle.skopeo_outside.specs.LaneTold.{LaneTold, WireTold, FilesTold, AreMore, IsLater, IsLaterWire, IsLaterFiles}
 use Rattle.skopeo_outside.specs.LaneLaws.{later_same, told_then, more_then}
-use Rattle.skopeo_outside.specs.Steps.{Ends}
 use Rattle.skopeo_outside.specs.declared.words.Step.{Step}
 use Rattle.skopeo_outside.specs.declared.words.Step.TheVariants as step
 use Rattle.skopeo_outside.proofs.WireLemmas.{append_none}
@@ -43,12 +42,11 @@ use Rattle.transports.specs.declared.blob.Blob.TheVariants as blob
 use Rattle.transports.specs.declared.source.Source.{Source}
 use Rattle.transports.specs.declared.source.Source.TheVariants as source
 use Rattle.transports.specs.Calls.{exchange_by, fault_by}
-use Rattle.transports.specs.Courses.{lane_course}
-use Rattle.transports.specs.Given.{SignaturesEnd, BlobEnds, GaveFront, GaveAll, IsReadAt, HasGiven, Rests}
+use Rattle.transports.specs.Given.{BlobEnds, GaveFront, GaveAll, IsReadAt, HasGiven, Rests}
 use Rattle.transports.specs.Has.{IsUntouched}
 use Rattle.transports.specs.Next.{GivesMore, GivesNoMore}
 use Rattle.transports.specs.Registries.{registry_of, request_of, LeadsTo, HasBody, BeginsWith, HasStatus, GivesNone, cause_of, BlobAt, refused, none, IsReadTo, IsReading}
-use Rattle.transports.specs.StepEnds.{reading, FailsBy}
+use Rattle.transports.specs.StepEnds.{FailsBy}
 use Rattle.transports.specs.Tried.{OnSource}
 use Rattle.transports.specs.Uploads.{is_mismatch}
 use Rattle.transports.specs.Within.{Within}
@@ -84,12 +82,6 @@ leads_as r P Q go old new l = record { count = l.count; few = l.few; hops = l.ho
 
 leads_more : (r : Request) (P : Request → Conversation → Type 0) (old new : Conversations) → LeadsTo r P old new → Told AreMore old new
 leads_more r P old new l = gains_more (l.hops ++ l.talk ∷ []) old new l.told
-
--- ---- no signatures are stored
-
-pub no_signatures : (r : Reference) (part : Option (List ℕ)) (a : LaneTold) (signatures : List (List ℕ)) → signatures ≡ [] → Ends lane_course (reading (SignaturesEnd (source.Registry r) part)) a a (Ok signatures)
-unfolding Ends lane_course SignaturesEnd
-no_signatures r part a signatures is = record { later = later_same a; ends = ((ap Ok is, later_same a), record { files = refl; to = refl }) }
 
 -- ---- no connection is open
 

@@ -1,5 +1,5 @@
 // A folder of the transport `dir` as a source.
-ghost use Rattle.std.specs.Prelude.{◌≡◌, ◌+◌, ◌<◌, ◌≤◌, ◌++◌, ◌^◌, [], List, ℕ, false, Ok, IfOk, IfErr, IfSome, length, take};
+ghost use Rattle.std.specs.Prelude.{◌≡◌, ◌+◌, ◌<◌, ◌≤◌, ◌++◌, ◌^◌, [], List, ℕ, false, Option, Ok, IfOk, IfErr, IfSome, length, take};
 ghost use Rattle.std.specs.Option.{option_map};
 ghost use Rattle.skopeo_outside.specs.Tree.{file_at};
 ghost use Rattle.skopeo_outside.specs.Folders.{joined};
@@ -16,6 +16,7 @@ ghost use Rattle.transports.specs.StepEnds.{reading, FailsBy};
 ghost use Rattle.transports.specs.declared.blob.Blob.TheVariants as blob;
 ghost use Rattle.transports.specs.Given.{Spares, ManifestEnds, SignaturesEnd, HasGiven, manifest_in};
 ghost use Rattle.transports.specs.Next.{GivesNext};
+ghost use Rattle.transports.specs.Stores.{StoreAt};
 ghost use Rattle.transports.specs.Has.{IsUntouched};
 ghost use Rattle.transports.specs.Uploads.{is_mismatch};
 
@@ -88,8 +89,8 @@ pub(crate) fn read_signatures<W: Wire, F: Files>(
     folder: &DirImage,
     part: Option<&Digest>,
 ) -> Result<Many<Many<u8>>, Refusal>
-    ensures ends { let digest = option_map (λ d. d.now) part.entry in
-        Ends lane_course (reading (SignaturesEnd (Folder folder.now) digest)) lane.old lane.new result }
+    ensures ends { (store : Option StoreAt) → let digest = option_map (λ d. d.now) part.entry in
+        Ends lane_course (reading (SignaturesEnd (Folder folder.now) store digest)) lane.old lane.new result }
     ensures untouched { IsUntouched lane.old lane.new }
     ensures spares { Spares (Folder folder.now) lane.old lane.new }
 {

@@ -46,6 +46,19 @@ fn stored_refusal(fault: RegistryFault, faults: u64) -> Refusal
     }
 }
 
+/// What comes of the answer of a store.
+fn by_store(
+    answer: Result<Many<Many<u8>>, RegistryFault>,
+    faults: u64,
+) -> Result<Many<Many<u8>>, Refusal>
+    ensures is { result ≡ by_store faults answer }
+{
+    match answer {
+        Ok(signatures) => Ok(signatures),
+        Err(fault) => Err(stored_refusal(fault, faults)),
+    }
+}
+
 /// The signatures that stand in a store, asked one by one on the lane's wire to the source.
 fn ask_store<W: Wire, F: Files>(
     alloc: Global,
@@ -61,19 +74,18 @@ fn ask_store<W: Wire, F: Files>(
         store.path(),
         store.digest(),
     );
-    match answer {
-        Ok(signatures) => Ok(signatures),
-        Err(fault) => Err(stored_refusal(fault, lane.from.faults())),
-    }
+    by_store(answer, lane.from.faults())
 }
 
 /// The signatures of an image at a registry: those that stand in its store, where it has one.
+#[tactic(auto, using(crate::proofs::StoreLemmas::stored_ends, crate::proofs::StoreLemmas::stored_untouched, crate::proofs::StoreLemmas::stored_spares, crate::proofs::StoreLemmas::none_stored, crate::proofs::SameLemmas::untouched_same, crate::proofs::SameLemmas::spares_same))]
 pub(crate) fn stored_signatures<W: Wire, F: Files>(
     alloc: Global,
     lane: &mut Lane<W, F>,
     store: &Option<Store>,
 ) -> Result<Many<Many<u8>>, Refusal>
-    ensures ends { (r : Reference) (part : Option (List ℕ)) → Ends lane_course (reading (SignaturesEnd (AtRegistry r) store.now part)) lane.old lane.new result }
+    ensures ends { (r : Reference) (part : Option (List ℕ))
+        → Ends lane_course (reading (SignaturesEnd (AtRegistry r) store.now part)) lane.old lane.new result }
     ensures untouched { IsUntouched lane.old lane.new }
     ensures spares { (r : Reference) → Spares (AtRegistry r) lane.old lane.new }
 {
