@@ -12,7 +12,7 @@ use crate::ready::make_ready;
 use crate::report::{Account, account_of};
 use crate::write::write_manifest;
 use admission::Taken;
-use skopeo_outside::{Files, Lane, Many, Wire};
+use skopeo_outside::{Files, Helper, Lane, Many, Wire};
 use std::alloc::Global;
 use std::thread::Threads;
 use transports::{Copied, CopyPlan, Dest, Refusal};
@@ -20,11 +20,11 @@ use transports::{Copied, CopyPlan, Dest, Refusal};
 /// Puts an image that was admitted at the plan's destination. What is told of it is made first, so that after the manifest
 /// nothing wants memory.
 #[tactic(auto, using(crate::proofs::SameLemmas::memory_at_once, crate::proofs::PlacedLemmas::placed_same, crate::proofs::PlacedLemmas::lost_same, skopeo_outside::proofs::PlaceLemmas::keeps_same))]
-pub(crate) fn place_image<R: Threads + Sync, W: Wire + Send, F: Files + Send>(
+pub(crate) fn place_image<R: Threads + Sync, W: Wire + Send, F: Files + Send, H: Helper>(
     rt: &R,
     alloc: Global,
     plan: &CopyPlan,
-    it: Taken,
+    it: Taken<F, H>,
     dest: Dest,
     lanes: &mut Vec<Lane<W, F>>,
 ) -> Result<Copied, Refusal>
