@@ -23,9 +23,12 @@ beside helper a = record { lanes = a.lanes; helper = helper }
 abbrev Framed : {A : Type 0} → SeenStep Refusal A → Type 0
 Framed {A} step = (a b : Seen) (r : Result A Refusal) (helper : HelperTold) → step a b r → step (beside helper a) (beside helper b) r
 
+then_beside : {A B : Type 0} (p : SeenStep Refusal A) (q : A → SeenStep Refusal B) (helper : HelperTold) → Framed p → ((x : A) → Framed (q x)) → {a b : Seen} {r : Result B Refusal} → Then p q a b r → Then p q (beside helper a) (beside helper b) r
+then_beside p q helper one two (goes a m b x r before behind) = goes (beside helper a) (beside helper m) (beside helper b) x r (one a m (Ok x) helper before) (two x m b r helper behind)
+then_beside p q helper one two (stops a b e before) = stops (beside helper a) (beside helper b) e (one a b (Err e) helper before)
+
 then_framed : {A B : Type 0} (p : SeenStep Refusal A) (q : A → SeenStep Refusal B) → Framed p → ((x : A) → Framed (q x)) → Framed (p >>= q)
-then_framed p q one two a b r helper (goes a m b x r before behind) = goes (beside helper a) (beside helper m) (beside helper b) x r (one a m (Ok x) helper before) (two x m b r helper behind)
-then_framed p q one two a b r helper (stops a b e before) = stops (beside helper a) (beside helper b) e (one a b (Err e) helper before)
+then_framed p q one two a b r helper walk = then_beside p q helper one two walk
 
 first_framed : {A : Type 0} (step : LaneStep Refusal A) → Framed (on_first lane_course step)
 unfolding on_first

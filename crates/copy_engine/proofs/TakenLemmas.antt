@@ -329,39 +329,39 @@ taken_is policy conf plan a b it walk =
     let later : IsLater m.lane b.lane = one.3.later.lane in (
       fetched,
       subst (λ (v : TakenImage). IsTaken policy conf plan v.from v.image fetched a b) (sym is)
-      (record {
-        answered = image_on plan.src_tls conf plan.source plan.short _ a.lane m.lane b.lane sub.1.answered (goes_at s.from m.lane b.lane later);
-        under = refl;
-        same = sub.1.same;
-        gave = manifest_later s.from None a.lane m.lane b.lane (Ok fetched) sub.1.gave later;
-        signed = signatures_later s.from (store_of plan s.place s.manifest) None a.lane m.lane b.lane (Ok s.signatures) sub.1.signed later;
-        judged = judged_at plan policy s a m b sub.1.untouched one.2.1;
-      }),
+          (record {
+            answered = image_on plan.src_tls conf plan.source plan.short _ a.lane m.lane b.lane sub.1.answered (goes_at s.from m.lane b.lane later);
+            under = refl;
+            same = sub.1.same;
+            gave = manifest_later s.from None a.lane m.lane b.lane (Ok fetched) sub.1.gave later;
+            signed = signatures_later s.from (store_of plan s.place s.manifest) None a.lane m.lane b.lane (Ok s.signatures) sub.1.signed later;
+            judged = judged_at plan policy s a m b sub.1.untouched one.2.1;
+          }),
     )
 
 -- ---- the same on the first lane of all
 
-answered_on : (was is_told : HelperTold) → (tls : Option Bool) (conf : Settings) (place : Place) (it : Found) (a b : LaneTold) (x y : List LaneTold) → AnswersFor tls conf place it a b → AnsweredAt tls conf place (outside (a ∷ x) was) (outside (b ∷ y) is_told) it
-answered_on was is_told tls conf (Dir path) it a b x y is = is
-answered_on was is_told tls conf (Docker r) it a b x y is = record { sources = is.0; has = is.1; tried = is.2 }
-answered_on was is_told tls conf (Oci path name) it a b x y is = is
+answered_on : (was now : HelperTold) → (tls : Option Bool) (conf : Settings) (place : Place) (it : Found) (a b : LaneTold) (x y : List LaneTold) → AnswersFor tls conf place it a b → AnsweredAt tls conf place (outside (a ∷ x) was) (outside (b ∷ y) now) it
+answered_on was now tls conf (Dir path) it a b x y is = is
+answered_on was now tls conf (Docker r) it a b x y is = record { sources = is.0; has = is.1; tried = is.2 }
+answered_on was now tls conf (Oci path name) it a b x y is = is
 
-answered_still : (was is_told : HelperTold) → (tls : Option Bool) (conf : Settings) (place : Place) (it : Found) (x y z : List LaneTold) → OnFirst IsLater y z → AnsweredAt tls conf place (outside x was) (outside y is_told) it → AnsweredAt tls conf place (outside x was) (outside z is_told) it
-answered_still was is_told tls conf (Dir path) it x y z later is = is
-answered_still was is_told tls conf (Docker r) it x y z later is = record {
+answered_still : (was now : HelperTold) → (tls : Option Bool) (conf : Settings) (place : Place) (it : Found) (x y z : List LaneTold) → OnFirst IsLater y z → AnsweredAt tls conf place (outside x was) (outside y now) it → AnsweredAt tls conf place (outside x was) (outside z now) it
+answered_still was now tls conf (Dir path) it x y z later is = is
+answered_still was now tls conf (Docker r) it x y z later is = record {
   sources = is.sources;
   has = is.has;
   tried = (let R : LaneTold → LaneTold → Type 0 = λ a b. AreTried tls is.sources a b (Ok it) in first_then (Within R) IsLater (Within R) (within_later R) x y z is.tried later);
 }
-answered_still was is_told tls conf (Oci path name) it x y z later is = is
+answered_still was now tls conf (Oci path name) it x y z later is = is
 
-image_answered : (was is_told : HelperTold) → (tls : Option Bool) (conf : Settings) (place : Place) (text : Option (List ℕ)) (it : FoundImage) (a b : LaneTold) (x y : List LaneTold) → ImageFor tls conf place text it a b → Answered tls conf place text (outside (a ∷ x) was) (outside (b ∷ y) is_told) it
-image_answered was is_told tls conf place None it a b x y is = (is.0, answered_on was is_told tls conf place it.found a b x y is.1)
-image_answered was is_told tls conf place (Some text) it a b x y is = record { names = is.0; stand = is.1; tried = is.2 }
+image_answered : (was now : HelperTold) → (tls : Option Bool) (conf : Settings) (place : Place) (text : Option (List ℕ)) (it : FoundImage) (a b : LaneTold) (x y : List LaneTold) → ImageFor tls conf place text it a b → Answered tls conf place text (outside (a ∷ x) was) (outside (b ∷ y) now) it
+image_answered was now tls conf place None it a b x y is = (is.0, answered_on was now tls conf place it.found a b x y is.1)
+image_answered was now tls conf place (Some text) it a b x y is = record { names = is.0; stand = is.1; tried = is.2 }
 
-image_still : (was is_told : HelperTold) → (tls : Option Bool) (conf : Settings) (place : Place) (text : Option (List ℕ)) (it : FoundImage) (x y z : List LaneTold) → OnFirst IsLater y z → Answered tls conf place text (outside x was) (outside y is_told) it → Answered tls conf place text (outside x was) (outside z is_told) it
-image_still was is_told tls conf place None it x y z later is = (is.0, answered_still was is_told tls conf place it.found x y z later is.1)
-image_still was is_told tls conf place (Some text) it x y z later is = record {
+image_still : (was now : HelperTold) → (tls : Option Bool) (conf : Settings) (place : Place) (text : Option (List ℕ)) (it : FoundImage) (x y z : List LaneTold) → OnFirst IsLater y z → Answered tls conf place text (outside x was) (outside y now) it → Answered tls conf place text (outside x was) (outside z now) it
+image_still was now tls conf place None it x y z later is = (is.0, answered_still was now tls conf place it.found x y z later is.1)
+image_still was now tls conf place (Some text) it x y z later is = record {
   names = is.names;
   stand = is.stand;
   tried = (let R : LaneTold → LaneTold → Type 0 = λ a b. AreNamesTried tls conf is.names a b (Ok it) in first_then (Within R) IsLater (Within R) (within_later R) x y z is.tried later);
@@ -376,16 +376,16 @@ pub record HasTaken (policy : PolicyLists) (conf : Settings) (plan : CopyPlan) (
   pub signed : OnFirst (λ a b. SignaturesEnd from (store_of plan image.place image.manifest) None a b (Ok image.signatures)) old.lanes new.lanes
   pub judged : IsJudgedIn plan old new image
 
-pub taken_on : (policy : PolicyLists) (conf : Settings) (plan : CopyPlan) (was is_told : HelperTold) (x y : List LaneTold) (it : TakenImage) → 0 < length x → Ends call_course (at_gate (admission plan conf policy)) (outside x was) (outside y is_told) (Ok it) → HasTaken policy conf plan it.from it.image (outside x was) (outside y is_told)
+pub taken_on : (policy : PolicyLists) (conf : Settings) (plan : CopyPlan) (was now : HelperTold) (x y : List LaneTold) (it : TakenImage) → 0 < length x → Ends call_course (at_gate (admission plan conf policy)) (outside x was) (outside y now) (Ok it) → HasTaken policy conf plan it.from it.image (outside x was) (outside y now)
 unfolding Ends at_gate
-taken_on policy conf plan was is_told [] y it some ends = absurd (omega arith)
-taken_on policy conf plan was is_told (a ∷ x) [] it some ends = absurd ends.ends.0
-taken_on policy conf plan was is_told (a ∷ x) (b ∷ y) it some ends =
-    let t = taken_is policy conf plan (record { lane = a; helper = was }) (record { lane = b; helper = is_told }) it ends.ends.0.ends in
+taken_on policy conf plan was now [] y it some ends = absurd (omega arith)
+taken_on policy conf plan was now (a ∷ x) [] it some ends = absurd ends.ends.0
+taken_on policy conf plan was now (a ∷ x) (b ∷ y) it some ends =
+    let t = taken_is policy conf plan (record { lane = a; helper = was }) (record { lane = b; helper = now }) it ends.ends.0.ends in
     let j = t.1.judged in
     record {
       fetched = t.0;
-      answered = image_answered was is_told plan.src_tls conf plan.source plan.short _ a b x y t.1.answered;
+      answered = image_answered was now plan.src_tls conf plan.source plan.short _ a b x y t.1.answered;
       under = t.1.under;
       same = t.1.same;
       gave = t.1.gave;
@@ -394,23 +394,23 @@ taken_on policy conf plan was is_told (a ∷ x) (b ∷ y) it some ends =
     }
 
 -- it is an image of the plan, however the lanes went on while the helper rested
-pub of_plan : (policy : PolicyLists) (conf : Settings) (plan : CopyPlan) (from : Source) (image : Admission) (was is_told : HelperTold) (x y z : List LaneTold) → HasTaken policy conf plan from image (outside x was) (outside y is_told) → IsAdmitted image → OnEach (λ place a b. IsLater a b) y z → IsOfPlan policy conf plan (outside x was) (outside z is_told) from image
-of_plan policy conf plan from image was is_told x y z taken admitted later =
+pub of_plan : (policy : PolicyLists) (conf : Settings) (plan : CopyPlan) (from : Source) (image : Admission) (was now : HelperTold) (x y z : List LaneTold) → HasTaken policy conf plan from image (outside x was) (outside y now) → IsAdmitted image → OnEach (λ place a b. IsLater a b) y z → IsOfPlan policy conf plan (outside x was) (outside z now) from image
+of_plan policy conf plan from image was now x y z taken admitted later =
     let on : OnFirst IsLater y z = first_of (λ place a b. IsLater a b) y z later in
     let Gave : LaneTold → LaneTold → Type 0 = λ a b. ManifestEnds from None a b (Ok taken.fetched) in
     let Signed : LaneTold → LaneTold → Type 0 = λ a b. SignaturesEnd from (store_of plan image.place image.manifest) None a b (Ok image.signatures) in
-    let Seen_from : LaneTold → LaneTold → Type 0 = λ a b. image.files ≡ a.files.tree in
+    let Read : LaneTold → LaneTold → Type 0 = λ a b. image.files ≡ a.files.tree in
     record {
       under = taken.under;
       fetched = taken.fetched;
-      answered = image_still was is_told plan.src_tls conf plan.source plan.short _ x y z on taken.answered;
+      answered = image_still was now plan.src_tls conf plan.source plan.short _ x y z on taken.answered;
       gave = first_then Gave IsLater Gave (λ a b c m l. manifest_later from None a b c (Ok taken.fetched) m l) x y z taken.gave on;
       same = taken.same;
       signed = first_then Signed IsLater Signed (λ a b c m l. signatures_later from (store_of plan image.place image.manifest) None a b c (Ok image.signatures) m l) x y z taken.signed on;
       judged = record {
         program = taken.judged.program;
         cwd = taken.judged.cwd;
-        files = first_then Seen_from IsLater Seen_from (λ a b c f l. f) x y z taken.judged.files on;
+        files = first_then Read IsLater Read (λ a b c f l. f) x y z taken.judged.files on;
         before = taken.judged.before;
         after = taken.judged.after;
       };
@@ -447,14 +447,14 @@ first_named tls conf names it [] y some on = absurd (omega arith)
 first_named tls conf names it (a ∷ x) [] some on = absurd on
 first_named tls conf names it (a ∷ x) (b ∷ y) some on = let g = names_gave tls conf names it on.first on.last on.is in (g.reference, g.from)
 
-pub apart_of : (policy : PolicyLists) (conf : Settings) (plan : CopyPlan) (from : Source) (image : Admission) (to : Dest) (was is_told : HelperTold) (x y : List LaneTold) → 0 < length x → IsBetweenPlaces plan → HasTaken policy conf plan from image (outside x was) (outside y is_told) → GoesTo plan.dest to → AreApart from to
-apart_of policy conf plan from image to was is_told x y some between taken goes = by_short plan.short taken.answered
+pub apart_of : (policy : PolicyLists) (conf : Settings) (plan : CopyPlan) (from : Source) (image : Admission) (to : Dest) (was now : HelperTold) (x y : List LaneTold) → 0 < length x → IsBetweenPlaces plan → HasTaken policy conf plan from image (outside x was) (outside y now) → GoesTo plan.dest to → AreApart from to
+apart_of policy conf plan from image to was now x y some between taken goes = by_short plan.short taken.answered
   where
-    by : (s : Place) → AnsweredAt plan.src_tls conf s (outside x was) (outside y is_told) (record { from = from; fetched = taken.fetched }) → ((path : List ℕ) → s ≡ Dir path → plan.dest ≢ Dir path) → AreApart from to
+    by : (s : Place) → AnsweredAt plan.src_tls conf s (outside x was) (outside y now) (record { from = from; fetched = taken.fetched }) → ((path : List ℕ) → s ≡ Dir path → plan.dest ≢ Dir path) → AreApart from to
     by (Dir path) is apart = folders_apart from path to plan.dest is (apart path refl) goes
     by (Docker r) is apart = let f = first_from plan.src_tls is.sources _ x y some is.tried in registry_apart from f.0 to f.1
     by (Oci path name) is apart = absurd is
 
-    by_short : (text : Option (List ℕ)) → Answered plan.src_tls conf plan.source text (outside x was) (outside y is_told) (record { place = image.place; found = record { from = from; fetched = taken.fetched } }) → AreApart from to
+    by_short : (text : Option (List ℕ)) → Answered plan.src_tls conf plan.source text (outside x was) (outside y now) (record { place = image.place; found = record { from = from; fetched = taken.fetched } }) → AreApart from to
     by_short None is = by plan.source is.1 between
     by_short (Some text) is = let f = first_named plan.src_tls conf is.names _ x y some is.tried in registry_apart from f.0 to f.1
