@@ -1,19 +1,43 @@
 -- A step of the first lane, and relations of the first lane, over all lanes.
-use Rattle.std.proofs.Common.{◌≡◌, ◌∙◌, ◌⊎◌, ◌≤◌, ◌<◌, ℕ, zero, suc, List, [], ◌∷◌, length, slice_get, slice_set, slice_index_or, Some, None, Result, inl, inr, refl, sym, arith}
+use Rattle.std.proofs.Common.{◌≡◌, ◌∙◌, ◌⊎◌, ◌≤◌, ◌<◌, ℕ, zero, suc, Bool, true, false, List, [], ◌∷◌, length, slice_get, slice_set, slice_index_or, Some, None, Result, Ok, Err, inl, inr, refl, sym, subst, arith}
 use Rattle.skopeo_outside.specs.LaneTold.{LaneTold, IsLater}
-use Rattle.skopeo_outside.specs.LaneLaws.{lane_at}
+use Rattle.skopeo_outside.specs.LaneLaws.{lane_at, later_same}
+use Rattle.skopeo_outside.specs.Helper.{Runs}
 use Rattle.skopeo_outside.specs.Seen.{OnFirst, OnEach, KeepsFrom, AreLanes, seen}
-use Rattle.skopeo_outside.specs.Steps.{Ends}
+use Rattle.skopeo_outside.specs.Steps.{EndsBy, EndsOf, Ends}
 use Rattle.skopeo_outside.specs.OnLanes.{LaneStep, on_first}
-use Rattle.skopeo_outside.proofs.FirstLemmas.{first_set}
+use Rattle.skopeo_outside.proofs.FirstLemmas.{first_set, each_first, keeps_rest}
 use Rattle.transports.specs.declared.refusal.Refusal.{Refusal}
 use Rattle.transports.specs.Refusals.{is_memory}
 use Rattle.transports.specs.Courses.{lane_course, call_course}
+use Rattle.admission.specs.GateTold.{GateStep, gate_course, told_at}
+use Rattle.copy_engine.specs.Walk.{at_gate}
 
 -- what a step of the first lane came to, in a list in which that lane is set
 pub ends_set : {A : Type 0} (step : LaneStep Refusal A) (old : List LaneTold) (x y : LaneTold) (r : Result A Refusal) → Ends lane_course step x y r → slice_index_or old 0 x ≡ x → 0 < length old → Ends call_course (on_first lane_course step) (seen old None 0) (seen (slice_set old 0 y) None 0) r
 unfolding lane_course
 ends_set step old x y r one is some = first_set is_memory lane_course (λ a b later. later) step old x y (record { runs = None; faults = 0 }) r some is one
+
+-- ---- a step of the first lane and the helper
+
+module _ (x y : LaneTold) (rest : List LaneTold) (was is : Runs) (few many : ℕ) where
+  gate_ends : {A : Type 0} (step : GateStep A) (r : Result A Refusal) → Ends gate_course step (told_at x was few) (told_at y is many) r → Ends call_course (at_gate step) (seen (x ∷ rest) was few) (seen (y ∷ rest) is many) r
+  unfolding Ends gate_course at_gate
+  gate_ends {A} step r one = record { later = each_first x y rest (λ place a b. IsLater a b) (λ place a. later_same a) one.later.lane; ends = ends r one }
+    where
+      ends : (r : Result A Refusal) → Ends gate_course step (told_at x was few) (told_at y is many) r → EndsOf call_course (at_gate step) (seen (x ∷ rest) was few) (seen (y ∷ rest) is many) r
+      ends (Ok v) one = (one, keeps_rest x y rest)
+      ends (Err e) one = by (is_memory e)
+        where
+          by : (f : Bool) → EndsBy {A = A} f call_course e (at_gate step) (seen (x ∷ rest) was few) (seen (y ∷ rest) is many)
+          by true = tt
+          by false = (one, keeps_rest x y rest)
+
+-- what it came to, in a list in which that lane is set
+pub gate_set : {A : Type 0} (step : GateStep A) (old : List LaneTold) (x y : LaneTold) (was is : Runs) (few many : ℕ) (r : Result A Refusal)
+    → Ends gate_course step (told_at x was few) (told_at y is many) r → slice_index_or old 0 x ≡ x → 0 < length old → Ends call_course (at_gate step) (seen old was few) (seen (slice_set old 0 y) is many) r
+gate_set step [] x y was is few many r one same some = absurd (omega arith)
+gate_set step (a ∷ rest) x y was is few many r one same some = gate_ends a y rest was is few many step r (subst (λ v. Ends gate_course step (told_at v was few) (told_at y is many) r) (sym same) one)
 
 -- ---- relations of the first lane
 

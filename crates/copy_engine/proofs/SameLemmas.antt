@@ -1,7 +1,9 @@
 -- A call that touches nothing meets each relation of what it leaves.
-use Rattle.std.proofs.Common.{◌≡◌, List, [], ◌∷◌, Some, Err, inl, sym, subst, ◌∙◌}
+use Rattle.std.proofs.Common.{◌≡◌, List, [], ◌∷◌, Some, None, Err, inl, refl, sym, ap, subst, ◌∙◌, append-nil}
+use Rattle.std.proofs.lemmas.List.Elements.{All-nil}
 use Rattle.skopeo_outside.specs.LaneTold.{LaneTold}
 use Rattle.skopeo_outside.specs.LaneLaws.{each_same}
+use Rattle.skopeo_outside.specs.Helper.{Runs}
 use Rattle.skopeo_outside.specs.Seen.{Seen, OnFirst, OnEach}
 use Rattle.skopeo_outside.specs.Steps.{Step, Ends}
 use Rattle.skopeo_outside.proofs.PlaceLemmas.{each_self}
@@ -16,6 +18,8 @@ use Rattle.transports.specs.Has.{IsUntouched, RemovesInOrder}
 use Rattle.transports.specs.Writes.{IsWrite}
 use Rattle.transports.proofs.SameLemmas.{untouched_same, order_same, none_same, nowhere_same}
 use Rattle.transports.proofs.WorkLemmas.{none_written}
+use Rattle.policy_gate.specs.Asked.{Gains}
+use Rattle.admission.specs.Judged.{AsksOnly, IsOfProgram}
 use Rattle.copy_jobs.specs.Secured.{AreSecured}
 use Rattle.copy_engine.specs.Headline.{ImageHeadline}
 use Rattle.copy_engine.specs.Stops.{Leaves, IsGivenUp}
@@ -51,3 +55,11 @@ leaves_same policy conf plan a = inl (untouched_each a.lanes)
 pub gives_up_same : (plan : CopyPlan) (a : Seen) → IsGivenUp plan a a
 unfolding IsGivenUp
 gives_up_same plan a = record { none = nowhere_same a.lanes; order = λ to goes. order_first to a.lanes }
+
+-- a helper that was not asked was asked nothing else
+pub asks_same : (plan : CopyPlan) (runs : Runs) → AsksOnly plan runs runs
+asks_same plan runs = record { gained = []; told = by runs; holds = All-nil (IsOfProgram plan.verifier) }
+  where
+    by : (x : Runs) → Gains [] x x
+    by None = refl
+    by (Some l) = ap Some (sym (append-nil l))

@@ -4,18 +4,14 @@ use Rattle.std.specs.Prelude.{⊤}
 use Rattle.skopeo_outside.specs.Tree.{Tree}
 use Rattle.skopeo_outside.specs.LaneTold.{LaneTold, IsLater}
 use Rattle.skopeo_outside.specs.LaneLaws.{later_then}
-use Rattle.skopeo_outside.specs.Seen.{OnFirst, OnEach, seen}
+use Rattle.skopeo_outside.specs.Seen.{HelperTold, Seen, OnFirst, OnEach}
 use Rattle.skopeo_outside.specs.Steps.{given, Ends}
-use Rattle.skopeo_outside.specs.OnLanes.{on_first}
 use Rattle.skopeo_outside.specs.declared.words.Fetched.{Fetched}
 use Rattle.image_ref.specs.Reference.{Reference}
 use Rattle.image_ref.specs.declared.place.Place.{Place}
 use Rattle.image_ref.specs.declared.place.Place.TheVariants.{Docker, Dir, Oci}
 use Rattle.layouts.specs.Names.{prefix_of}
 use Rattle.layouts.specs.Source.{numbered, signatures_in}
-use Rattle.manifest_v2s2.specs.declared.image.Image.{Image}
-use Rattle.manifest_v2s2.specs.declared.kind.Kind.{Kind}
-use Rattle.manifest_convert.specs.Blobs.{blobs}
 use Rattle.policy_file.specs.PolicyLists.{PolicyLists}
 use Rattle.registries_conf.specs.Settings.{Settings}
 use Rattle.registries_conf.specs.IsSources.{HasSources}
@@ -29,7 +25,7 @@ use Rattle.registries_conf.specs.IsExpanded.{StandsFor}
 use Rattle.registries_conf.specs.declared.fault.ShortFault.{ShortFault}
 use Rattle.registries_conf.specs.declared.fault.ShortFault.TheVariants as short
 use Rattle.registries_conf.proofs.ExpandLaw.{says_expanded}
-use Rattle.policy_scope.specs.Chosen.{chosen}
+use Rattle.policy_gate.specs.declared.fault.GateFault.{GateFault}
 use Rattle.transports.specs.declared.source.Source.{Source}
 use Rattle.transports.specs.declared.source.Source.TheVariants as source
 use Rattle.transports.specs.declared.dest.Dest.{Dest}
@@ -46,20 +42,30 @@ use Rattle.transports.specs.Found.{by_sources, by_attempts, trying, in_folder, a
 use Rattle.transports.specs.Names.{AreNamesTried, as_named}
 use Rattle.transports.specs.Tried.{AreTried}
 use Rattle.transports.specs.Within.{Within}
-use Rattle.transports.proofs.WithinLemmas.{within_later, within_as, within_now}
+use Rattle.transports.proofs.WithinLemmas.{within_earlier, within_later, within_as, within_now}
 use Rattle.transports.proofs.TriedLemmas.{tried_gave, given_manifest}
 use Rattle.transports.proofs.NameLemmas.{names_gave}
-use Rattle.transports.specs.Courses.{lane_course, call_course}
+use Rattle.transports.specs.Courses.{call_course}
 use Rattle.transports.specs.StepEnds.{reading}
-use Rattle.transports.specs.Given.{ManifestEnds, SignaturesEnd, by_folder}
+use Rattle.transports.specs.Given.{ManifestEnds, StoredEnd, SignaturesEnd, by_folder}
+use Rattle.transports.specs.Stores.{StoreAt, AreStored, store_of}
 use Rattle.transports.specs.Has.{IsUntouched}
 use Rattle.transports.proofs.GivenLemmas.{manifest_later, signatures_later}
-use Rattle.admission.specs.declared.take.Taken.{Taken}
-use Rattle.admission.specs.Admission.{Admission, IsAdmitted, judged_by, where_judged, admitted_of}
-use Rattle.admission.specs.Walk.{admission}
-use Rattle.copy_engine.specs.Headline.{AnsweredAt, Answered, IsOfPlan}
+use Rattle.transports.proofs.HasLemmas.{untouched_then}
+use Rattle.transports.proofs.StoreLemmas.{stored_goes}
+use Rattle.admission.specs.Admission.{Admission, IsAdmitted}
+use Rattle.admission.specs.GateTold.{GateTold, on_lane}
+use Rattle.admission.specs.Judged.{Submission, admission_of, refusal_of, taken_by, judging}
+use Rattle.admission.specs.Taken.{TakenImage}
+use Rattle.admission.specs.Walk.{submission, admission}
+use Rattle.copy_engine.specs.Headline.{AnsweredAt, Answered, IsJudgedIn, IsOfPlan}
+use Rattle.copy_engine.specs.Walk.{at_gate}
 use Rattle.copy_engine.proofs.LiftLemmas.{first_then, first_of}
 use Rattle.copy_engine.proofs.PlacedLemmas.{then_ok}
+
+-- what lanes and a helper tell
+abbrev pub outside : List LaneTold → HelperTold → Seen
+outside lanes helper = record { lanes = lanes; helper = helper }
 
 ok_same : {A E : Type 0} (x y : A) → ◌≡◌ {A = Result A E} (Ok x) (Ok y) → x ≡ y
 ok_same x y e = cc
@@ -225,129 +231,191 @@ unfolding ManifestEnds
 manifest_on (source.Folder path) a b c r ends on = ends
 manifest_on (source.Registry reference) a b c r ends on = manifest_later (source.Registry reference) None a b c r ends on
 
-signatures_on : (s : Source) (a b : LaneTold) (r : Result (List (List ℕ)) Refusal) → SignaturesEnd s None a b r → GoesOnAt s a b
+-- where it went on, it is known to have gone on there
+goes_at : (s : Source) (a b : LaneTold) → IsLater a b → GoesOnAt s a b
+goes_at (source.Folder path) a b later = tt
+goes_at (source.Registry reference) a b later = later
+
+stored_on : (store : Option StoreAt) (a b : LaneTold) (r : Result (List (List ℕ)) Refusal) → StoredEnd store a b r → IsLater a b
+stored_on None a b r ends = ends.1
+stored_on (Some store) a b r ends = later_then a ends.first b ends.before (later_then ends.first ends.last b (stored_goes store ends.first ends.last r ends.is) ends.after)
+
+signatures_on : (s : Source) (store : Option StoreAt) (a b : LaneTold) (r : Result (List (List ℕ)) Refusal) → SignaturesEnd s store None a b r → GoesOnAt s a b
 unfolding SignaturesEnd
-signatures_on (source.Folder path) a b r ends = tt
-signatures_on (source.Registry reference) a b r ends = ends.1
-
--- ---- what was admitted of it
-
-record IsOf (policy : PolicyLists) (place : Place) (fetched : Fetched) (signatures : List (List ℕ)) (image : Admission) : Type 0 where
-  under : image.policy ≡ policy
-  named : image.place ≡ place
-  same : image.manifest ≡ fetched.bytes
-  signed : image.signatures ≡ signatures
-
-judged_is : (r : Result ⊤ Refusal) (wanted image : Admission) → Ok image ≡ where_judged r wanted → image ≡ wanted
-judged_is (Ok done) wanted image e = ok_same {E = Refusal} image wanted e
-judged_is (Err e) wanted image no_image = let no : ◌≡◌ {A = Result Admission Refusal} (Ok image) (Err e) = no_image in cc
-
-admitted_is : (policy : PolicyLists) (place : Place) (fetched : Fetched) (kind : Kind) (image : Image) (signatures : List (List ℕ)) (it : Admission) → Ok it ≡ admitted_of policy place fetched kind image signatures → IsOf policy place fetched signatures it
-unfolding admitted_of
-admitted_is policy place fetched kind image signatures it e =
-    let is : it ≡ record { policy = policy; place = place; manifest = fetched.bytes; kind = kind; image = image; jobs = blobs image; signatures = signatures } = judged_is (judged_by (chosen policy place)) _ it e in
-    record { under = ap (λ (v : Admission). v.policy) is; named = ap (λ (v : Admission). v.place) is; same = ap (λ (v : Admission). v.manifest) is; signed = ap (λ (v : Admission). v.signatures) is }
+signatures_on (source.Folder path) store a b r ends = tt
+signatures_on (source.Registry reference) store a b r ends = stored_on store a b r ends
 
 -- ---- the whole walk on one lane
 
-signatures_earlier : (from : Source) (part : Option (List ℕ)) (a b c : LaneTold) (r : Result (List (List ℕ)) Refusal) → IsUntouched a b → GoesOnAt from a b → SignaturesEnd from part b c r → SignaturesEnd from part a c r
+stored_earlier : (store : Option StoreAt) (a b c : LaneTold) (r : Result (List (List ℕ)) Refusal) → IsLater a b → StoredEnd store b c r → StoredEnd store a c r
+stored_earlier None a b c r on ends = (ends.0, later_then a b c on ends.1)
+stored_earlier (Some store) a b c r on ends = within_earlier (λ x y. AreStored store x y r) a b c on ends
+
+signatures_earlier : (from : Source) (store : Option StoreAt) (part : Option (List ℕ)) (a b c : LaneTold) (r : Result (List (List ℕ)) Refusal) → IsUntouched a b → GoesOnAt from a b → SignaturesEnd from store part b c r → SignaturesEnd from store part a c r
 unfolding SignaturesEnd
-signatures_earlier (source.Folder path) part a b c r same on ends = subst (λ (x : Option Tree). IfSome x (λ t. r ≡ by_folder path (signatures_in (numbered t path (prefix_of part))))) same.files ends
-signatures_earlier (source.Registry reference) part a b c r same on ends = (ends.0, later_then a b c on ends.1)
+signatures_earlier (source.Folder path) store part a b c r same on ends = subst (λ (x : Option Tree). IfSome x (λ t. r ≡ by_folder path (signatures_in (numbered t path (prefix_of part))))) same.files ends
+signatures_earlier (source.Registry reference) store part a b c r same on ends = stored_earlier store a b c r on ends
 
--- the source answered for the image as it is named, it gave this manifest and these signatures, and they are the image's
-pub record IsTaken (policy : PolicyLists) (conf : Settings) (plan : CopyPlan) (from : Source) (image : Admission) (fetched : Fetched) (a b : LaneTold) : Type 0 where
-  pub answered : ImageFor plan.src_tls conf plan.source plan.short (record { place = image.place; found = record { from = from; fetched = fetched } }) a b
-  pub under : image.policy ≡ policy
-  pub same : image.manifest ≡ fetched.bytes
-  pub gave : ManifestEnds from None a b (Ok fetched)
-  pub signed : SignaturesEnd from None a b (Ok image.signatures)
+-- the source answered for the image as it is named, and it gave this manifest and these signatures
+record IsSubmitted (conf : Settings) (plan : CopyPlan) (s : Submission) (fetched : Fetched) (a b : LaneTold) : Type 0 where
+  answered : ImageFor plan.src_tls conf plan.source plan.short (record { place = s.place; found = record { from = s.from; fetched = fetched } }) a b
+  same : s.manifest ≡ fetched.bytes
+  gave : ManifestEnds s.from None a b (Ok fetched)
+  signed : SignaturesEnd s.from (store_of plan s.place s.manifest) None a b (Ok s.signatures)
+  untouched : IsUntouched a b
 
-taken_is : (policy : PolicyLists) (conf : Settings) (plan : CopyPlan) (a b : LaneTold) (it : Taken) → admission plan conf policy a b (Ok it) → (fetched : Fetched) × IsTaken policy conf plan it.from it.image fetched a b
-unfolding admission given found
-taken_is policy conf plan a b it walk =
+submitted_is : (conf : Settings) (plan : CopyPlan) (a b : LaneTold) (s : Submission) → submission plan conf a b (Ok s) → (fetched : Fetched) × IsSubmitted conf plan s fetched a b
+unfolding submission given found
+submitted_is conf plan a b s walk =
     let one = then_ok walk in
     let kind = then_ok one.3 in
     let image = then_ok kind.3 in
     let signatures = then_ok image.3 in
-    let last = then_ok signatures.3 in
-    let source = image_is plan.src_tls conf plan.source plan.short a one.0 one.1 one.2 in
-    let of_it = admitted_is policy one.1.place one.1.found.fetched kind.1 image.1 signatures.1 last.1 last.2.1 in
-    let is : it ≡ record { from = one.1.found.from; image = last.1 } = ok_same {E = Refusal} _ _ last.3.1 in
+    let last = signatures.3 in
+    let it = one.1 in
+    let fetched = it.found.fetched in
+    let from = it.found.from in
+    let store = store_of plan it.place fetched.bytes in
+    let source = image_is plan.src_tls conf plan.source plan.short a one.0 it one.2 in
+    let is : s ≡ record { from = from; place = it.place; manifest = fetched.bytes; kind = kind.1; image = image.1; signatures = signatures.1 } = ok_same {E = Refusal} _ _ last.1 in
     let start : image.0 ≡ one.0 = image.2.0 ∙ kind.2.0 in
-    let stop : b ≡ signatures.0 = last.3.0 ∙ last.2.0 in
-    let read : SignaturesEnd one.1.found.from None one.0 b (Ok last.1.signatures) =
-    subst (λ s. SignaturesEnd one.1.found.from None one.0 b (Ok s)) (sym of_it.signed)
-    (subst (λ x. SignaturesEnd one.1.found.from None x b (Ok signatures.1)) start (subst (λ y. SignaturesEnd one.1.found.from None image.0 y (Ok signatures.1)) (sym stop) signatures.2.0)) in
-    let behind : GoesOnAt one.1.found.from one.0 b = signatures_on one.1.found.from one.0 b (Ok last.1.signatures) read in (
-      one.1.found.fetched,
+    let read : SignaturesEnd from store None one.0 b (Ok signatures.1) =
+    subst (λ x. SignaturesEnd from store None x b (Ok signatures.1)) start (subst (λ y. SignaturesEnd from store None image.0 y (Ok signatures.1)) (sym last.0) signatures.2.0) in
+    let rests : IsUntouched one.0 b = subst (λ x. IsUntouched x b) start (subst (λ y. IsUntouched image.0 y) (sym last.0) signatures.2.1) in
+    let behind : GoesOnAt from one.0 b = signatures_on from store one.0 b (Ok signatures.1) read in (
+      fetched,
       record {
-        answered = subst (λ (v : Taken). ImageFor plan.src_tls conf plan.source plan.short (record { place = v.image.place; found = record { from = v.from; fetched = one.1.found.fetched } }) a b) (sym is)
-            (subst (λ (p : Place). ImageFor plan.src_tls conf plan.source plan.short (record { place = p; found = one.1.found }) a b) (sym of_it.named) (image_on plan.src_tls conf plan.source plan.short one.1 a one.0 b source.answered behind));
-        under = ap (λ (v : Taken). v.image.policy) is ∙ of_it.under;
-        same = ap (λ (v : Taken). v.image.manifest) is ∙ of_it.same;
-        gave = subst (λ (v : Taken). ManifestEnds v.from None a b (Ok one.1.found.fetched)) (sym is) (manifest_on one.1.found.from a one.0 b (Ok one.1.found.fetched) source.gave behind);
-        signed = subst (λ (v : Taken). SignaturesEnd v.from None a b (Ok v.image.signatures)) (sym is) (signatures_earlier one.1.found.from None a one.0 b (Ok last.1.signatures) source.untouched source.on read);
+        answered = subst (λ (v : Submission). ImageFor plan.src_tls conf plan.source plan.short (record { place = v.place; found = record { from = v.from; fetched = fetched } }) a b) (sym is) (image_on plan.src_tls conf plan.source plan.short it a one.0 b source.answered behind);
+        same = ap (λ (v : Submission). v.manifest) is;
+        gave = subst (λ (v : Submission). ManifestEnds v.from None a b (Ok fetched)) (sym is) (manifest_on from a one.0 b (Ok fetched) source.gave behind);
+        signed = subst (λ (v : Submission). SignaturesEnd v.from (store_of plan v.place v.manifest) None a b (Ok v.signatures)) (sym is) (signatures_earlier from store None a one.0 b (Ok signatures.1) source.untouched source.on read);
+        untouched = untouched_then a one.0 b source.untouched rests;
       },
+    )
+
+-- it was judged there: by the plan's verifier, over the files as they were, and the runs that the helper gained
+record IsJudgedAt (plan : CopyPlan) (image : Admission) (a b : GateTold) : Type 0 where
+  program : image.program ≡ plan.verifier
+  cwd : image.cwd ≡ plan.cwd
+  files : image.files ≡ a.lane.files.tree
+  before : image.before ≡ a.helper.runs
+  after : image.after ≡ b.helper.runs
+
+-- the same of the image that was admitted
+record IsTaken (policy : PolicyLists) (conf : Settings) (plan : CopyPlan) (from : Source) (image : Admission) (fetched : Fetched) (a b : GateTold) : Type 0 where
+  answered : ImageFor plan.src_tls conf plan.source plan.short (record { place = image.place; found = record { from = from; fetched = fetched } }) a.lane b.lane
+  under : image.policy ≡ policy
+  same : image.manifest ≡ fetched.bytes
+  gave : ManifestEnds from None a.lane b.lane (Ok fetched)
+  signed : SignaturesEnd from (store_of plan image.place image.manifest) None a.lane b.lane (Ok image.signatures)
+  judged : IsJudgedAt plan image a b
+
+taken_ok : (plan : CopyPlan) (policy : PolicyLists) (s : Submission) (m b : GateTold) (answer : Result ⊤ GateFault) (it : TakenImage) → Ok it ≡ taken_by plan policy s m b answer → it ≡ record { from = s.from; image = admission_of plan policy s m b }
+taken_ok plan policy s m b (Ok done) it is = ok_same {E = Refusal} _ _ is
+taken_ok plan policy s m b (Err fault) it is = let no : ◌≡◌ {A = Result TakenImage Refusal} (Ok it) (Err (refusal_of b.lane.files.faults b.helper.faults fault)) = is in cc
+
+judged_at : (plan : CopyPlan) (policy : PolicyLists) (s : Submission) (a m b : GateTold) → IsUntouched a.lane m.lane → m.helper ≡ a.helper → IsJudgedAt plan (admission_of plan policy s m b) a b
+judged_at plan policy s a m b same rests = record { program = refl; cwd = refl; files = same.files; before = ap (λ (h : HelperTold). h.runs) rests; after = refl }
+
+taken_is : (policy : PolicyLists) (conf : Settings) (plan : CopyPlan) (a b : GateTold) (it : TakenImage) → admission plan conf policy a b (Ok it) → (fetched : Fetched) × IsTaken policy conf plan it.from it.image fetched a b
+unfolding admission on_lane judging Ends
+taken_is policy conf plan a b it walk =
+    let one = then_ok walk in
+    let m = one.0 in
+    let s = one.1 in
+    let sub = submitted_is conf plan a.lane m.lane s one.2.0.ends in
+    let fetched = sub.0 in
+    let is : it ≡ record { from = s.from; image = admission_of plan policy s m b } = taken_ok plan policy s m b one.3.answer it one.3.is in
+    let later : IsLater m.lane b.lane = one.3.later.lane in (
+      fetched,
+      subst (λ (v : TakenImage). IsTaken policy conf plan v.from v.image fetched a b) (sym is)
+          (record {
+            answered = image_on plan.src_tls conf plan.source plan.short _ a.lane m.lane b.lane sub.1.answered (goes_at s.from m.lane b.lane later);
+            under = refl;
+            same = sub.1.same;
+            gave = manifest_later s.from None a.lane m.lane b.lane (Ok fetched) sub.1.gave later;
+            signed = signatures_later s.from (store_of plan s.place s.manifest) None a.lane m.lane b.lane (Ok s.signatures) sub.1.signed later;
+            judged = judged_at plan policy s a m b sub.1.untouched one.2.1;
+          }),
     )
 
 -- ---- the same on the first lane of all
 
-answered_on : (tls : Option Bool) (conf : Settings) (place : Place) (it : Found) (a b : LaneTold) (x y : List LaneTold) → AnswersFor tls conf place it a b → AnsweredAt tls conf place (seen (a ∷ x) None 0) (seen (b ∷ y) None 0) it
-answered_on tls conf (Dir path) it a b x y is = is
-answered_on tls conf (Docker r) it a b x y is = record { sources = is.0; has = is.1; tried = is.2 }
-answered_on tls conf (Oci path name) it a b x y is = is
+answered_on : (was now : HelperTold) → (tls : Option Bool) (conf : Settings) (place : Place) (it : Found) (a b : LaneTold) (x y : List LaneTold) → AnswersFor tls conf place it a b → AnsweredAt tls conf place (outside (a ∷ x) was) (outside (b ∷ y) now) it
+answered_on was now tls conf (Dir path) it a b x y is = is
+answered_on was now tls conf (Docker r) it a b x y is = record { sources = is.0; has = is.1; tried = is.2 }
+answered_on was now tls conf (Oci path name) it a b x y is = is
 
-answered_still : (tls : Option Bool) (conf : Settings) (place : Place) (it : Found) (x y z : List LaneTold) → OnFirst IsLater y z → AnsweredAt tls conf place (seen x None 0) (seen y None 0) it → AnsweredAt tls conf place (seen x None 0) (seen z None 0) it
-answered_still tls conf (Dir path) it x y z later is = is
-answered_still tls conf (Docker r) it x y z later is = record {
+answered_still : (was now : HelperTold) → (tls : Option Bool) (conf : Settings) (place : Place) (it : Found) (x y z : List LaneTold) → OnFirst IsLater y z → AnsweredAt tls conf place (outside x was) (outside y now) it → AnsweredAt tls conf place (outside x was) (outside z now) it
+answered_still was now tls conf (Dir path) it x y z later is = is
+answered_still was now tls conf (Docker r) it x y z later is = record {
   sources = is.sources;
   has = is.has;
   tried = (let R : LaneTold → LaneTold → Type 0 = λ a b. AreTried tls is.sources a b (Ok it) in first_then (Within R) IsLater (Within R) (within_later R) x y z is.tried later);
 }
-answered_still tls conf (Oci path name) it x y z later is = is
+answered_still was now tls conf (Oci path name) it x y z later is = is
 
-image_answered : (tls : Option Bool) (conf : Settings) (place : Place) (text : Option (List ℕ)) (it : FoundImage) (a b : LaneTold) (x y : List LaneTold) → ImageFor tls conf place text it a b → Answered tls conf place text (seen (a ∷ x) None 0) (seen (b ∷ y) None 0) it
-image_answered tls conf place None it a b x y is = (is.0, answered_on tls conf place it.found a b x y is.1)
-image_answered tls conf place (Some text) it a b x y is = record { names = is.0; stand = is.1; tried = is.2 }
+image_answered : (was now : HelperTold) → (tls : Option Bool) (conf : Settings) (place : Place) (text : Option (List ℕ)) (it : FoundImage) (a b : LaneTold) (x y : List LaneTold) → ImageFor tls conf place text it a b → Answered tls conf place text (outside (a ∷ x) was) (outside (b ∷ y) now) it
+image_answered was now tls conf place None it a b x y is = (is.0, answered_on was now tls conf place it.found a b x y is.1)
+image_answered was now tls conf place (Some text) it a b x y is = record { names = is.0; stand = is.1; tried = is.2 }
 
-image_still : (tls : Option Bool) (conf : Settings) (place : Place) (text : Option (List ℕ)) (it : FoundImage) (x y z : List LaneTold) → OnFirst IsLater y z → Answered tls conf place text (seen x None 0) (seen y None 0) it → Answered tls conf place text (seen x None 0) (seen z None 0) it
-image_still tls conf place None it x y z later is = (is.0, answered_still tls conf place it.found x y z later is.1)
-image_still tls conf place (Some text) it x y z later is = record {
+image_still : (was now : HelperTold) → (tls : Option Bool) (conf : Settings) (place : Place) (text : Option (List ℕ)) (it : FoundImage) (x y z : List LaneTold) → OnFirst IsLater y z → Answered tls conf place text (outside x was) (outside y now) it → Answered tls conf place text (outside x was) (outside z now) it
+image_still was now tls conf place None it x y z later is = (is.0, answered_still was now tls conf place it.found x y z later is.1)
+image_still was now tls conf place (Some text) it x y z later is = record {
   names = is.names;
   stand = is.stand;
   tried = (let R : LaneTold → LaneTold → Type 0 = λ a b. AreNamesTried tls conf is.names a b (Ok it) in first_then (Within R) IsLater (Within R) (within_later R) x y z is.tried later);
 }
 
-pub record HasTaken (policy : PolicyLists) (conf : Settings) (plan : CopyPlan) (from : Source) (image : Admission) (x y : List LaneTold) : Type 0 where
+pub record HasTaken (policy : PolicyLists) (conf : Settings) (plan : CopyPlan) (from : Source) (image : Admission) (old new : Seen) : Type 0 where
   pub fetched : Fetched
-  pub answered : Answered plan.src_tls conf plan.source plan.short (seen x None 0) (seen y None 0) (record { place = image.place; found = record { from = from; fetched = fetched } })
+  pub answered : Answered plan.src_tls conf plan.source plan.short old new (record { place = image.place; found = record { from = from; fetched = fetched } })
   pub under : image.policy ≡ policy
   pub same : image.manifest ≡ fetched.bytes
-  pub gave : OnFirst (λ a b. ManifestEnds from None a b (Ok fetched)) x y
-  pub signed : OnFirst (λ a b. SignaturesEnd from None a b (Ok image.signatures)) x y
+  pub gave : OnFirst (λ a b. ManifestEnds from None a b (Ok fetched)) old.lanes new.lanes
+  pub signed : OnFirst (λ a b. SignaturesEnd from (store_of plan image.place image.manifest) None a b (Ok image.signatures)) old.lanes new.lanes
+  pub judged : IsJudgedIn plan old new image
 
-pub taken_on : (policy : PolicyLists) (conf : Settings) (plan : CopyPlan) (x y : List LaneTold) (it : Taken) → 0 < length x → Ends call_course (on_first lane_course (admission plan conf policy)) (seen x None 0) (seen y None 0) (Ok it) → HasTaken policy conf plan it.from it.image x y
-unfolding Ends on_first
-taken_on policy conf plan [] y it some ends = absurd (omega arith)
-taken_on policy conf plan (a ∷ x) [] it some ends = absurd ends.ends.0
-taken_on policy conf plan (a ∷ x) (b ∷ y) it some ends =
-    let t = taken_is policy conf plan a b it ends.ends.0.ends in
-    record { fetched = t.0; answered = image_answered plan.src_tls conf plan.source plan.short _ a b x y t.1.answered; under = t.1.under; same = t.1.same; gave = t.1.gave; signed = t.1.signed }
+pub taken_on : (policy : PolicyLists) (conf : Settings) (plan : CopyPlan) (was now : HelperTold) (x y : List LaneTold) (it : TakenImage) → 0 < length x → Ends call_course (at_gate (admission plan conf policy)) (outside x was) (outside y now) (Ok it) → HasTaken policy conf plan it.from it.image (outside x was) (outside y now)
+unfolding Ends at_gate
+taken_on policy conf plan was now [] y it some ends = absurd (omega arith)
+taken_on policy conf plan was now (a ∷ x) [] it some ends = absurd ends.ends.0
+taken_on policy conf plan was now (a ∷ x) (b ∷ y) it some ends =
+    let t = taken_is policy conf plan (record { lane = a; helper = was }) (record { lane = b; helper = now }) it ends.ends.0.ends in
+    let j = t.1.judged in
+    record {
+      fetched = t.0;
+      answered = image_answered was now plan.src_tls conf plan.source plan.short _ a b x y t.1.answered;
+      under = t.1.under;
+      same = t.1.same;
+      gave = t.1.gave;
+      signed = t.1.signed;
+      judged = record { program = j.program; cwd = j.cwd; files = j.files; before = j.before; after = j.after };
+    }
 
--- it is an image of the plan, however the lanes went on
-pub of_plan : (policy : PolicyLists) (conf : Settings) (plan : CopyPlan) (from : Source) (image : Admission) (x y z : List LaneTold) → HasTaken policy conf plan from image x y → IsAdmitted image → OnEach (λ place a b. IsLater a b) y z → IsOfPlan policy conf plan (seen x None 0) (seen z None 0) from image
-of_plan policy conf plan from image x y z taken admitted later = record {
-  under = taken.under;
-  fetched = taken.fetched;
-  answered = image_still plan.src_tls conf plan.source plan.short _ x y z (first_of (λ place a b. IsLater a b) y z later) taken.answered;
-  gave = first_then (λ a b. ManifestEnds from None a b (Ok taken.fetched)) IsLater (λ a b. ManifestEnds from None a b (Ok taken.fetched)) (λ a b c m l. manifest_later from None a b c (Ok taken.fetched) m l) x y z taken.gave (first_of (λ place a b. IsLater a b) y z later);
-  same = taken.same;
-  admitted = admitted;
-}
-
-pub signed_later : (policy : PolicyLists) (conf : Settings) (plan : CopyPlan) (from : Source) (image : Admission) (x y z : List LaneTold) → HasTaken policy conf plan from image x y → OnEach (λ place a b. IsLater a b) y z → OnFirst (λ a b. SignaturesEnd from None a b (Ok image.signatures)) x z
-signed_later policy conf plan from image x y z taken later = first_then (λ a b. SignaturesEnd from None a b (Ok image.signatures)) IsLater (λ a b. SignaturesEnd from None a b (Ok image.signatures)) (λ a b c m l. signatures_later from None a b c (Ok image.signatures) m l) x y z taken.signed (first_of (λ place a b. IsLater a b) y z later)
+-- it is an image of the plan, however the lanes went on while the helper rested
+pub of_plan : (policy : PolicyLists) (conf : Settings) (plan : CopyPlan) (from : Source) (image : Admission) (was now : HelperTold) (x y z : List LaneTold) → HasTaken policy conf plan from image (outside x was) (outside y now) → IsAdmitted image → OnEach (λ place a b. IsLater a b) y z → IsOfPlan policy conf plan (outside x was) (outside z now) from image
+of_plan policy conf plan from image was now x y z taken admitted later =
+    let on : OnFirst IsLater y z = first_of (λ place a b. IsLater a b) y z later in
+    let Gave : LaneTold → LaneTold → Type 0 = λ a b. ManifestEnds from None a b (Ok taken.fetched) in
+    let Signed : LaneTold → LaneTold → Type 0 = λ a b. SignaturesEnd from (store_of plan image.place image.manifest) None a b (Ok image.signatures) in
+    let Read : LaneTold → LaneTold → Type 0 = λ a b. image.files ≡ a.files.tree in
+    record {
+      under = taken.under;
+      fetched = taken.fetched;
+      answered = image_still was now plan.src_tls conf plan.source plan.short _ x y z on taken.answered;
+      gave = first_then Gave IsLater Gave (λ a b c m l. manifest_later from None a b c (Ok taken.fetched) m l) x y z taken.gave on;
+      same = taken.same;
+      signed = first_then Signed IsLater Signed (λ a b c m l. signatures_later from (store_of plan image.place image.manifest) None a b c (Ok image.signatures) m l) x y z taken.signed on;
+      judged = record {
+        program = taken.judged.program;
+        cwd = taken.judged.cwd;
+        files = first_then Read IsLater Read (λ a b c f l. f) x y z taken.judged.files on;
+        before = taken.judged.before;
+        after = taken.judged.after;
+      };
+      admitted = admitted;
+    }
 
 -- ---- and it comes from another place than it goes to
 
@@ -379,14 +447,14 @@ first_named tls conf names it [] y some on = absurd (omega arith)
 first_named tls conf names it (a ∷ x) [] some on = absurd on
 first_named tls conf names it (a ∷ x) (b ∷ y) some on = let g = names_gave tls conf names it on.first on.last on.is in (g.reference, g.from)
 
-pub apart_of : (policy : PolicyLists) (conf : Settings) (plan : CopyPlan) (from : Source) (image : Admission) (to : Dest) (x y : List LaneTold) → 0 < length x → IsBetweenPlaces plan → HasTaken policy conf plan from image x y → GoesTo plan.dest to → AreApart from to
-apart_of policy conf plan from image to x y some between taken goes = by_short plan.short taken.answered
+pub apart_of : (policy : PolicyLists) (conf : Settings) (plan : CopyPlan) (from : Source) (image : Admission) (to : Dest) (was now : HelperTold) (x y : List LaneTold) → 0 < length x → IsBetweenPlaces plan → HasTaken policy conf plan from image (outside x was) (outside y now) → GoesTo plan.dest to → AreApart from to
+apart_of policy conf plan from image to was now x y some between taken goes = by_short plan.short taken.answered
   where
-    by : (s : Place) → AnsweredAt plan.src_tls conf s (seen x None 0) (seen y None 0) (record { from = from; fetched = taken.fetched }) → ((path : List ℕ) → s ≡ Dir path → plan.dest ≢ Dir path) → AreApart from to
+    by : (s : Place) → AnsweredAt plan.src_tls conf s (outside x was) (outside y now) (record { from = from; fetched = taken.fetched }) → ((path : List ℕ) → s ≡ Dir path → plan.dest ≢ Dir path) → AreApart from to
     by (Dir path) is apart = folders_apart from path to plan.dest is (apart path refl) goes
     by (Docker r) is apart = let f = first_from plan.src_tls is.sources _ x y some is.tried in registry_apart from f.0 to f.1
     by (Oci path name) is apart = absurd is
 
-    by_short : (text : Option (List ℕ)) → Answered plan.src_tls conf plan.source text (seen x None 0) (seen y None 0) (record { place = image.place; found = record { from = from; fetched = taken.fetched } }) → AreApart from to
+    by_short : (text : Option (List ℕ)) → Answered plan.src_tls conf plan.source text (outside x was) (outside y now) (record { place = image.place; found = record { from = from; fetched = taken.fetched } }) → AreApart from to
     by_short None is = by plan.source is.1 between
     by_short (Some text) is = let f = first_named plan.src_tls conf is.names _ x y some is.tried in registry_apart from f.0 to f.1
