@@ -104,7 +104,7 @@ copy_read words cwd common passing quiet short_names source dest task is e =
       tls = refl;
       lookaside = refl;
       verifier = refl;
-      cwd = refl;
+      folder = refl;
       policy = refl;
       conf = refl;
     }))
@@ -204,7 +204,7 @@ pub copy_asked : (words : List (List ℕ)) (cwd : List ℕ) (task : CopyTask) �
 unfolding task_of task_in
 copy_asked words cwd task a =
     ap (by_words cwd) ((commands words (command.Copy a.common a.passing task.quiet a.short_names a.source a.dest)).1 (words_copied words a.common a.passing task.quiet a.short_names a.source a.dest a.asked))
-    ∙ copy_is cwd a.common a.passing a.short_names a.source a.dest task a.from a.to a.apart a.built a.short a.plain a.lanes a.tls a.lookaside a.verifier a.cwd a.policy a.conf
+    ∙ copy_is cwd a.common a.passing a.short_names a.source a.dest task a.from a.to a.apart a.built a.short a.plain a.lanes a.tls a.lookaside a.verifier a.folder a.policy a.conf
 
 -- ---- both ways
 

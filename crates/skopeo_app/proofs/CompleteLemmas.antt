@@ -66,7 +66,7 @@ use Rattle.skopeo_app.specs.declared.task.PolicyChoice.{PolicyChoice}
 use Rattle.skopeo_app.specs.declared.task.PolicyChoice.TheVariants.{Anything, Named, Usual}
 use Rattle.skopeo_app.specs.declared.rules.Rules.{Rules}
 use Rattle.skopeo_app.specs.declared.task.ConfChoice.{ConfChoice}
-use Rattle.skopeo_app.specs.declared.task.ConfChoice.TheVariants as choice
+use Rattle.skopeo_app.specs.declared.task.ConfChoice.TheVariants as conf_of
 use Rattle.skopeo_app.specs.declared.task.Task.{Task}
 use Rattle.skopeo_app.specs.declared.task.Task.TheVariants.{Copy}
 use Rattle.skopeo_app.specs.Refusals.{is_memory, is_free, Shows, IsOfOutput, BlamesOutput}
@@ -652,11 +652,11 @@ policy_equals tree home cwd (Named path) a b r end tells = (told tree (λ t. r �
 policy_equals tree home cwd Usual a b r end tells = (told tree (λ t. r ≡ policy_file t (usual_path t home cwd policy_name)) a.files.tree tells end.0, end.1.files ∙ tells)
 
 -- where no registry is named, no configuration is read
-unread_equals : (tree : Tree) (home cwd : List ℕ) (choice : ConfChoice) → choice ≡ choice.Unread → Equals tree (conf_end home cwd choice) (Ok no_conf)
+unread_equals : (tree : Tree) (home cwd : List ℕ) (choice : ConfChoice) → choice ≡ conf_of.Unread → Equals tree (conf_end home cwd choice) (Ok no_conf)
 unfolding conf_end
 unread_equals tree home cwd choice is = subst (λ v. Equals tree (conf_end home cwd v) (Ok no_conf)) (sym is) (λ a b r end tells. (end.0, end.1.files ∙ tells))
 
-rules_equal : (tree : Tree) (home cwd : List ℕ) (task : CopyTask) → task.conf ≡ choice.Unread → Equals tree (rules_end home cwd task) (and_then (policy_at tree home cwd task.policy) (λ policy. Ok (rules_of policy no_conf)))
+rules_equal : (tree : Tree) (home cwd : List ℕ) (task : CopyTask) → task.conf ≡ conf_of.Unread → Equals tree (rules_end home cwd task) (and_then (policy_at tree home cwd task.policy) (λ policy. Ok (rules_of policy no_conf)))
 unfolding rules_end
 rules_equal tree home cwd task unread =
     equal_then tree (policy_end home cwd task.policy) (λ policy. conf_end home cwd task.conf >>= (λ c. both policy c)) (policy_at tree home cwd task.policy) (λ u. and_then u (λ policy. Ok (rules_of policy no_conf))) (λ e. refl)
@@ -680,7 +680,7 @@ seen_comes {A} step w x y (Err e) end f = by (is_memory e) refl end.ends
     by true is shown = inl is
     by false is one = f one
 
-module _ (tree : Tree) (home cwd : List ℕ) (task : CopyTask) (folder target : List ℕ) (apart : folder ≢ target) (from : task.plan.source ≡ Dir folder) (whole : task.plan.short ≡ None) (alone : task.plan.verifier ≡ None) (to : task.plan.dest ≡ Dir target) (unread : task.conf ≡ choice.Unread) (taken : Result ⊤ Refusal) (judges : Judges tree target taken) where
+module _ (tree : Tree) (home cwd : List ℕ) (task : CopyTask) (folder target : List ℕ) (apart : folder ≢ target) (from : task.plan.source ≡ Dir folder) (whole : task.plan.short ≡ None) (alone : task.plan.verifier ≡ None) (to : task.plan.dest ≡ Dir target) (unread : task.conf ≡ conf_of.Unread) (taken : Result ⊤ Refusal) (judges : Judges tree target taken) where
   abbrev by_policy : Result Copied CommandRefusal
   by_policy = and_then (policy_at tree home cwd task.policy) (λ policy. or_image (copy_in tree folder taken policy))
 
@@ -826,7 +826,7 @@ end_comes words home cwd before after (Err e) w end f = by (is_memory e) refl en
     by false is one = f one
 
 -- a copy of a folder reads no configuration
-unread_copy : (words : List (List ℕ)) (cwd : List ℕ) (task : CopyTask) (folder : List ℕ) → task_of words cwd ≡ Ok (Copy task) → task.plan.source ≡ Dir folder → task.conf ≡ choice.Unread
+unread_copy : (words : List (List ℕ)) (cwd : List ℕ) (task : CopyTask) (folder : List ℕ) → task_of words cwd ≡ Ok (Copy task) → task.plan.source ≡ Dir folder → task.conf ≡ conf_of.Unread
 unread_copy words cwd task folder named from = let asks = asks_copy words cwd task named in asks.conf ∙ ap (conf_choice_of cwd asks.common) from
 
 -- nor is a folder a short name

@@ -32,6 +32,6 @@ pub record AsksCopy (words : List (List ℕ)) (cwd : List ℕ) (task : CopyTask)
   pub tls : task.plan.src_tls ≡ passing.src_tls
   pub lookaside : task.plan.lookaside ≡ passing.lookaside
   pub verifier : task.plan.verifier ≡ option_map (cleaned cwd) passing.verifier
-  pub cwd : task.plan.cwd ≡ cwd
+  pub folder : task.plan.cwd ≡ cwd
   pub policy : task.policy ≡ choice_of cwd common
   pub conf : task.conf ≡ conf_choice_of cwd common task.plan.source
