@@ -273,7 +273,7 @@ GivenBy tree folder policy b (Err e) = Comes {A = Submission} of.is_memory (Err 
 
 module _ (tree : Tree) (folder : List ℕ) (plan : CopyPlan) (conf : Settings) (policy : PolicyLists) (from : plan.source ≡ Dir folder) (whole : plan.short ≡ None) (alone : plan.verifier ≡ None) where
   -- behind what is put to the gate
-  gated : Result Submission Refusal → Result Submission Refusal
+  abbrev gated : Result Submission Refusal → Result Submission Refusal
   gated w = and_then w (λ s. and_then (judged_by (chosen policy (Dir folder)) s.signatures) (λ _. Ok s))
 
   admitted_is : (s : Submission) (w : Result ⊤ Refusal) → Ok s ≡ submitted_in tree folder → judged_by (chosen policy s.place) s.signatures ≡ w → admitted_in tree folder policy ≡ and_then w (λ _. Ok s)
@@ -283,13 +283,18 @@ module _ (tree : Tree) (folder : List ℕ) (plan : CopyPlan) (conf : Settings) (
       ∙ ap (λ u. and_then u (λ _. Ok s)) (ap (λ p. judged_by (chosen policy p) s.signatures) (sym (submitted_of tree folder s is).place) ∙ judged)
 
   judged_comes : (s : Submission) (a b : GateTold) (r : Result TakenImage Refusal) → Ok s ≡ submitted_in tree folder → Tells tree b.lane → JudgedAs plan policy s a b r → GivenBy tree folder policy b.lane r
-  judged_comes s a b (Ok it) is tells (holds, same) =
-      ((s, record {
+  judged_comes s a b (Ok it) is tells (holds, same) = (
+    (
+      s,
+      record {
         admitted = admitted_is s (Ok tt) is holds;
         from = ap (λ (t : TakenImage). t.from) same ∙ (submitted_of tree folder s is).from;
         jobs = ap (λ (t : TakenImage). t.image.jobs) same;
         copied = ap (λ (t : TakenImage). copied_of t.image) same;
-      }), tells)
+      },
+    ),
+    tells,
+  )
   judged_comes s a b (Err e) is tells (inl memory) = inl memory
   judged_comes s a b (Err e) is tells (inr refused) = inr (sym (admitted_is s (Err e) is refused))
 
@@ -554,7 +559,7 @@ module _ (tree : Tree) (folder target : List ℕ) (apart : folder ≢ target) (t
       put a b (Err e) end = absurd end
 
   -- an admitted image at its destination
-  placed_at : Admission → Result Copied Refusal
+  abbrev placed_at : Admission → Result Copied Refusal
   placed_at it = and_then taken (λ _. and_then (first_fault tree folder it.jobs) (λ _. Ok (copied_of it)))
 
   placing_comes : (it : Admission) (x y : Seen) (r : Result Copied Refusal) → placing (source.Folder folder) (dest.Folder target) it x y r → Begins folder tree x → Calm x y → Comes of.is_memory r (placed_at it)
