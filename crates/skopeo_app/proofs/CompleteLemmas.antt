@@ -159,8 +159,8 @@ free_comes (image.BadReference text fault) w a b calm is shows = let no : false 
 free_comes (image.ShortName text count) w a b calm is shows = let no : false ≡ true = is in cc
 free_comes (image.NoSource attempts) w a b calm is shows = let no : false ≡ true = is in cc
 free_comes (image.TlsRequired host) w a b calm is shows = let no : false ≡ true = is in cc
-free_comes (image.Garbled status front) w a b calm is shows = let no : false ≡ true = is in cc
-free_comes (image.BadAnswer step front) w a b calm is shows = let no : false ≡ true = is in cc
+free_comes (image.Garbled status first) w a b calm is shows = let no : false ≡ true = is in cc
+free_comes (image.BadAnswer step first) w a b calm is shows = let no : false ≡ true = is in cc
 free_comes (image.LookasideRefused number status) w a b calm is shows = let no : false ≡ true = is in cc
 free_comes (image.Encoded step) w a b calm is shows = let no : false ≡ true = is in cc
 free_comes (image.TooManyRedirects step) w a b calm is shows = let no : false ≡ true = is in cc
@@ -240,8 +240,8 @@ submission_equals tree folder plan conf is whole a b r end tells =
 
 -- a value behind two steps comes of a value of the first
 split : {A B : Type 0} (w : Result A Refusal) (f : A → Result B Refusal) (y : B) → Ok y ≡ and_then w f → (x : A) × (Ok y ≡ f x)
-split (Ok x) f y e = (x, e)
-split (Err d) f y e = let no : ◌≡◌ {A = Result B Refusal} (Ok y) (Err d) = e in cc
+split {B = B} (Ok x) f y e = (x, e)
+split {B = B} (Err d) f y e = let no : ◌≡◌ {A = Result B Refusal} (Ok y) (Err d) = e in cc
 
 record IsOfFolder (folder : List ℕ) (s : Submission) : Type 0 where
   pub place : s.place ≡ Dir folder
@@ -729,8 +729,8 @@ module _ (tree : Tree) (home cwd : List ℕ) (task : CopyTask) (folder target : 
       by (Image (image.ShortName text count)) is blames = absurd is
       by (Image (image.NoSource attempts)) is blames = absurd is
       by (Image (image.TlsRequired host)) is blames = absurd is
-      by (Image (image.Garbled status front)) is blames = absurd is
-      by (Image (image.BadAnswer step front)) is blames = absurd is
+      by (Image (image.Garbled status first)) is blames = absurd is
+      by (Image (image.BadAnswer step first)) is blames = absurd is
       by (Image (image.LookasideRefused number status)) is blames = absurd is
       by (Image (image.Encoded step)) is blames = absurd is
       by (Image (image.TooManyRedirects step)) is blames = absurd is
@@ -798,8 +798,8 @@ memory_four (Image (image.BadReference text fault)) memory = let no : false ≡ 
 memory_four (Image (image.ShortName text count)) memory = let no : false ≡ true = memory in cc
 memory_four (Image (image.NoSource attempts)) memory = let no : false ≡ true = memory in cc
 memory_four (Image (image.TlsRequired host)) memory = let no : false ≡ true = memory in cc
-memory_four (Image (image.Garbled status front)) memory = let no : false ≡ true = memory in cc
-memory_four (Image (image.BadAnswer step front)) memory = let no : false ≡ true = memory in cc
+memory_four (Image (image.Garbled status first)) memory = let no : false ≡ true = memory in cc
+memory_four (Image (image.BadAnswer step first)) memory = let no : false ≡ true = memory in cc
 memory_four (Image (image.LookasideRefused number status)) memory = let no : false ≡ true = memory in cc
 memory_four (Image (image.Encoded step)) memory = let no : false ≡ true = memory in cc
 memory_four (Image (image.TooManyRedirects step)) memory = let no : false ≡ true = memory in cc

@@ -14,10 +14,10 @@ use Rattle.transports.specs.Courses.{call_course}
 use Rattle.transports.specs.Has.{IsUntouched}
 use Rattle.transports.proofs.SameLemmas.{none_same}
 use Rattle.transports.proofs.WorkLemmas.{none_written}
-use Rattle.policy_gate.specs.Calls.{Gained}
+use Rattle.std.proofs.lemmas.List.Elements.{All-nil}
 use Rattle.policy_gate.proofs.RunLaw.{gains-none}
 use Rattle.skopeo_outside.specs.Helper.{Runs}
-use Rattle.admission.specs.Judged.{AsksOnly}
+use Rattle.admission.specs.Judged.{IsOfProgram, AsksOnly}
 use Rattle.copy_engine.specs.Headline.{ImageHeadline}
 use Rattle.copy_engine.specs.Walk.{image_end}
 use Rattle.copy_engine.specs.Stops as engine
@@ -96,7 +96,7 @@ none_read home cwd task x y quiet lane a b at bytes ea eb write = absurd (none_w
 
 -- a helper that rests asks nothing
 pub none_asked : (plan : CopyPlan) (old new : Runs) → new ≡ old → AsksOnly plan old new
-none_asked plan old new same = record { gained = []; told = same ∙ gains-none old; holds = tt }
+none_asked plan old new same = record { gained = []; told = same ∙ gains-none old; holds = All-nil (IsOfProgram plan.verifier) }
 
 -- what was asked behind a helper that rested was asked since
 asked_earlier : (plan : CopyPlan) (old middle new : Runs) → middle ≡ old → AsksOnly plan middle new → AsksOnly plan old new
