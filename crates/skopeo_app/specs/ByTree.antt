@@ -1,6 +1,6 @@
 -- What a copy from a folder without a program that judges signatures comes to, as a function of one tree: its steps in
 -- order, the first refusal counting.
-use Rattle.std.specs.Prelude.{◌+◌, ◌++◌, ◌∷◌, [], List, ℕ, Option, None, Result, Ok, Err, ⊤, length, map}
+use Rattle.std.specs.Prelude.{◌+◌, ◌++◌, ◌∷◌, [], List, ℕ, Option, None, Result, Ok, Err, ⊤, map}
 use Rattle.skopeo_outside.specs.Tree.{Tree, file_at}
 use Rattle.skopeo_outside.specs.Folders.{joined}
 use Rattle.skopeo_outside.specs.declared.words.Fetched.{Fetched}
