@@ -27,17 +27,21 @@ use Rattle.transports.specs.Places.{dest_at}
 use Rattle.transports.specs.Found.{by_sources, trying, in_folder, at_registries, found_for, found_as, by_expansion, trying_names, at_names, found_short, found_by, found}
 use Rattle.registries_conf.specs.Expand.{expand}
 use Rattle.transports.specs.Courses.{lane_course, call_course}
+use Rattle.transports.specs.Stores.{store_of}
 use Rattle.transports.specs.Given.{ManifestEnds, SignaturesEnd}
 use Rattle.transports.specs.Has.{IsUntouched}
 use Rattle.transports.specs.StepEnds.{reading, taking, putting}
 use Rattle.transports.proofs.HasLemmas.{untouched_then}
 use Rattle.transports.proofs.SameLemmas.{untouched_same}
 use Rattle.admission.specs.Parts.{kind_in, image_in}
-use Rattle.admission.specs.Admission.{Admission, admitted_of}
-use Rattle.admission.specs.Walk.{admission}
+use Rattle.admission.specs.Admission.{Admission}
+use Rattle.admission.specs.GateTold.{GateTold, on_lane, gate_course}
+use Rattle.admission.specs.Judged.{Submission, judging}
+use Rattle.admission.specs.Taken.{TakenImage}
+use Rattle.admission.specs.Walk.{submission, admission}
 use Rattle.copy_jobs.specs.Secured.{JobsEnd}
 use Rattle.copy_engine.specs.Report.{copied_of}
-use Rattle.copy_engine.specs.Walk.{securing, readying, placing, image_end}
+use Rattle.copy_engine.specs.Walk.{at_gate, securing, readying, placing, image_end}
 use Rattle.copy_engine.proofs.SameLemmas.{untouched_each}
 use Rattle.skopeo_app.specs.declared.refusal.CommandRefusal.TheVariants.{Image}
 use Rattle.skopeo_app.specs.Refusals.{is_ahead}
@@ -84,15 +88,14 @@ rests_found : (plan : CopyPlan) (conf : Settings) → Rests (found plan conf)
 unfolding found
 rests_found plan conf = rests_by plan.src_tls conf plan.source plan.short
 
-rests_admission : (plan : CopyPlan) (conf : Settings) (policy : PolicyLists) → Rests (admission plan conf policy)
-unfolding admission
-rests_admission plan conf policy =
+rests_submission : (plan : CopyPlan) (conf : Settings) → Rests (submission plan conf)
+unfolding submission
+rests_submission plan conf =
     rests_then _ _ (rests_found plan conf)
     (λ it. rests_then _ _ (rests_given (kind_in it.found.fetched))
     (λ kind. rests_then _ _ (rests_given (image_in kind it.found.fetched))
-    (λ image. rests_then _ _ (rests_reading (SignaturesEnd it.found.from None))
-    (λ signatures. rests_then _ _ (rests_given (admitted_of policy it.place it.found.fetched kind image signatures))
-    (λ admitted. rests_given (Ok (record { from = it.found.from; image = admitted })))))))
+    (λ image. rests_then _ _ (rests_reading (SignaturesEnd it.found.from (store_of plan it.place it.found.fetched.bytes) None))
+    (λ signatures. rests_given _))))
 
 -- ---- the first lane alone
 
@@ -132,6 +135,13 @@ ahead_free (refusal.BadReference text fault) ahead = refl
 ahead_free (refusal.ShortName text count) ahead = refl
 ahead_free (refusal.Blocked n) ahead = refl
 ahead_free (refusal.NoSource attempts) ahead = refl
+ahead_free (refusal.TlsRequired host) ahead = refl
+ahead_free (refusal.Garbled status first) ahead = refl
+ahead_free (refusal.BadAnswer step first) ahead = refl
+ahead_free (refusal.LookasideRefused number status) ahead = refl
+ahead_free (refusal.Encoded step) ahead = refl
+ahead_free (refusal.TooManyRedirects step) ahead = refl
+ahead_free (refusal.Helper count) ahead = refl
 ahead_free refusal.Memory ahead = let no : false ≡ true = ahead in cc
 
 ahead_memory : (e : Refusal) → is_ahead (Image e) ≡ true → of.is_memory e ≡ false
@@ -147,7 +157,55 @@ ahead_memory (refusal.BadReference text fault) ahead = refl
 ahead_memory (refusal.ShortName text count) ahead = refl
 ahead_memory (refusal.Blocked n) ahead = refl
 ahead_memory (refusal.NoSource attempts) ahead = refl
+ahead_memory (refusal.TlsRequired host) ahead = refl
+ahead_memory (refusal.Garbled status first) ahead = refl
+ahead_memory (refusal.BadAnswer step first) ahead = refl
+ahead_memory (refusal.LookasideRefused number status) ahead = refl
+ahead_memory (refusal.Encoded step) ahead = refl
+ahead_memory (refusal.TooManyRedirects step) ahead = refl
+ahead_memory (refusal.Helper count) ahead = refl
 ahead_memory refusal.Memory ahead = let no : false ≡ true = ahead in cc
+
+-- ---- source and gate
+
+-- an answer that is none, or a refusal that comes ahead
+abbrev IsAheadOf : {A : Type 0} → Result A Refusal → Type 0
+IsAheadOf (Ok x) = Unit {0}
+IsAheadOf (Err e) = is_ahead (Image e) ≡ true
+
+on_lane_rests : {A : Type 0} (step : LaneStep Refusal A) → Rests step → (a b : GateTold) (r : Result A Refusal) → IsAheadOf r → on_lane step a b r → IsUntouched a.lane b.lane
+unfolding on_lane
+on_lane_rests step f a b (Ok x) ahead end = f a.lane b.lane (Ok x) (value_of step a.lane b.lane x end.0)
+on_lane_rests step f a b (Err e) ahead end = f a.lane b.lane (Err e) (not_free step a.lane b.lane e (ahead_free e ahead) end.0)
+
+judging_rests : (plan : CopyPlan) (policy : PolicyLists) (s : Submission) (a b : GateTold) (r : Result TakenImage Refusal) → judging plan policy s a b r → IsUntouched a.lane b.lane
+unfolding judging
+judging_rests plan policy s a b r end = end.untouched
+
+rests_admission : (plan : CopyPlan) (conf : Settings) (policy : PolicyLists) (a b : GateTold) (r : Result TakenImage Refusal) → IsAheadOf r → admission plan conf policy a b r → IsUntouched a.lane b.lane
+unfolding admission
+rests_admission plan conf policy a b r ahead end = by a b r ahead end
+  where
+    by : (a b : GateTold) (r : Result TakenImage Refusal) → IsAheadOf r → Then (on_lane (submission plan conf)) (judging plan policy) a b r → IsUntouched a.lane b.lane
+    by a b r ahead (goes k m t s w one two) =
+        untouched_then k.lane m.lane t.lane (on_lane_rests (submission plan conf) (rests_submission plan conf) k m (Ok s) tt one) (judging_rests plan policy s m t w two)
+    by a b r ahead (stops k t e one) = on_lane_rests (submission plan conf) (rests_submission plan conf) k t (Err e) ahead one
+
+-- what the gate's end on the first lane touched
+gate_end : (plan : CopyPlan) (conf : Settings) (policy : PolicyLists) (a b : GateTold) (r : Result TakenImage Refusal) → IsAheadOf r → Ends gate_course (admission plan conf policy) a b r → IsUntouched a.lane b.lane
+unfolding Ends gate_course
+gate_end plan conf policy a b (Ok it) ahead end = rests_admission plan conf policy a b (Ok it) tt end.ends
+gate_end plan conf policy a b (Err e) ahead end =
+    rests_admission plan conf policy a b (Err e) ahead (subst (λ f. EndsBy {A = TakenImage} f gate_course e (admission plan conf policy) a b) (ahead_memory e ahead) end.ends)
+
+gate_rests : (plan : CopyPlan) (conf : Settings) (policy : PolicyLists) (x y : Seen) (r : Result TakenImage Refusal) → IsAheadOf r → at_gate (admission plan conf policy) x y r → OnEach (λ place a b. IsUntouched a b) x.lanes y.lanes
+unfolding at_gate
+gate_rests plan conf policy x y r ahead end = first_untouched x.lanes y.lanes (by x.lanes y.lanes end.0) end.1
+  where
+    by : (k l : List LaneTold) → OnFirst (λ a b. Ends gate_course (admission plan conf policy) (record { lane = a; helper = x.helper }) (record { lane = b; helper = y.helper }) r) k l → OnFirst (λ a b. IsUntouched a b) k l
+    by [] l e = tt
+    by (a ∷ k) [] e = e
+    by (a ∷ k) (b ∷ l) e = gate_end plan conf policy (record { lane = a; helper = x.helper }) (record { lane = b; helper = y.helper }) r ahead e
 
 cause_late : (number : ℕ) (c : Cause) → is_ahead (Image (of.by_cause number c)) ≡ false
 cause_late number (cause.Files count) = refl
@@ -221,19 +279,19 @@ placing_rests from to image e x y some ahead end =
     (λ s m t v one two some. (let none = put_late to (copied_of image) e m t ahead two in absurd (omega (arith, none, some)))) (λ s t one some. readying_rests from to image.jobs e s t ahead one) x y end some
 
 image_rests : (plan : CopyPlan) (conf : Settings) (policy : PolicyLists) (to : Dest) (e : Refusal) (x y : Seen) → 0 < length y.lanes → is_ahead (Image e) ≡ true
-    → (on_first lane_course (admission plan conf policy) >>= (λ it. placing it.from to it.image)) x y (Err e) → Untouched x y
+    → (at_gate (admission plan conf policy) >>= (λ it. placing it.from to it.image)) x y (Err e) → Untouched x y
 image_rests plan conf policy to e x y some ahead end =
-    refused_then (on_first lane_course (admission plan conf policy)) (λ it. placing it.from to it.image)
+    refused_then (at_gate (admission plan conf policy)) (λ it. placing it.from to it.image)
     (λ s t. 0 < length t.lanes → Untouched s t) e
     (λ s m t it one two some. each_then (λ place a b. IsUntouched a b) (λ place a b. IsUntouched a b) (λ place a b. IsUntouched a b) (λ place a b c p q. untouched_then a b c p q) s.lanes m.lanes t.lanes
-    (on_each (admission plan conf policy) s m (Ok it) (λ a b v. rests_admission plan conf policy a b (Ok it) (value_of (admission plan conf policy) a b it v)) one)
+    (gate_rests plan conf policy s m (Ok it) tt one)
     (placing_rests it.from to it.image e m t some ahead two))
-    (λ s t one some. on_each (admission plan conf policy) s t (Err e) (λ a b v. rests_admission plan conf policy a b (Err e) (not_free (admission plan conf policy) a b e (ahead_free e ahead) v)) one) x y end some
+    (λ s t one some. gate_rests plan conf policy s t (Err e) ahead one) x y end some
 
 walk_rests : (plan : CopyPlan) (conf : Settings) (policy : PolicyLists) (e : Refusal) (x y : Seen) → 0 < length y.lanes → is_ahead (Image e) ≡ true → image_end plan conf policy x y (Err e) → Untouched x y
 unfolding image_end given
 walk_rests plan conf policy e x y some ahead end =
-    refused_then (given (dest_at plan.dest)) (λ to. on_first lane_course (admission plan conf policy) >>= (λ it. placing it.from to it.image))
+    refused_then (given (dest_at plan.dest)) (λ to. at_gate (admission plan conf policy) >>= (λ it. placing it.from to it.image))
     (λ s t. 0 < length t.lanes → Untouched s t) e
     (λ s m t to one two some. subst (λ v. Untouched v t) (one.0) (image_rests plan conf policy to e m t some ahead two))
     (λ s t one some. subst (λ v. Untouched s v) (sym one.0) (untouched_each s.lanes)) x y end some

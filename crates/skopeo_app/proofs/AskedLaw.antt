@@ -1,5 +1,5 @@
 -- The copy that words ask for: the reading and the relation agree.
-use Rattle.std.proofs.Common.{◌≡◌, ◌≢◌, ◌&&◌, ◌↔◌, List, ℕ, Bool, true, false, if◌then◌else◌, Result, Ok, Err, refl, sym, ap, subst, ◌∙◌}
+use Rattle.std.proofs.Common.{◌≡◌, ◌≢◌, ◌&&◌, ◌↔◌, List, ℕ, Bool, true, false, if◌then◌else◌, Option, Result, Ok, Err, refl, sym, ap, subst, ◌∙◌}
 use Rattle.std.specs.Prelude.{⊤}
 use Rattle.std.specs.Str.{bytes_eq}
 use Rattle.std.proofs.lemmas.Slice.Eq.{bytes_eq-Decides}
@@ -32,7 +32,7 @@ use Rattle.skopeo_app.specs.declared.refusal.Unbuilt.TheVariants as unbuilt
 use Rattle.skopeo_app.specs.declared.task.CopyTask.{CopyTask}
 use Rattle.skopeo_app.specs.declared.task.Task.{Task}
 use Rattle.skopeo_app.specs.declared.task.Task.TheVariants.{Page, Copy}
-use Rattle.skopeo_app.specs.Plan.{◌>>=◌, is_folder, folder_in, or_reference, place_at, are_same, apart, lanes_for, short_for, plan_of}
+use Rattle.skopeo_app.specs.Plan.{◌>>=◌, is_folder, folder_in, or_reference, place_at, are_same, apart, lanes_for, short_for, verifier_for, plan_between, plan_of}
 use Rattle.skopeo_app.specs.Task.{asks_more, are_built, built, choice_of, conf_choice_of, copy_of, unbuilt_at, after_name, unbuilt_sync, task_in, by_words, task_of}
 use Rattle.skopeo_app.specs.Asked.{AsksCopy}
 use Rattle.skopeo_app.proofs.TaskLemmas.{sound}
@@ -76,11 +76,11 @@ copy_read : (words : List (List ℕ)) (cwd : List ℕ) (common : Common) (passin
 unfolding copy_of plan_of
 copy_read words cwd common passing quiet short_names source dest task is e =
     let done : CopyPlan → Result Task CommandRefusal = λ plan. Ok (Copy (record { policy = choice_of cwd common; conf = conf_choice_of cwd common plan.source; quiet = quiet; plan = plan })) in
-    let planned = bound (plan_of cwd (lanes_for common) passing.src_tls short_names source dest) (λ plan. built common passing plan >>= (λ _. done plan)) (Copy task) e in
+    let planned = bound (plan_of cwd (lanes_for common) passing short_names source dest) (λ plan. built common passing plan >>= (λ _. done plan)) (Copy task) e in
     let p = planned.0 in
     let passed = bound (built common passing p) (λ _. done p) (Copy task) planned.2 in
     let whole = built_read common passing p passed.0 passed.1 in
-    let placed : Place → Place → CopyPlan = λ from to. record { source = from; short = short_for short_names from source; dest = to; lanes = lanes_for common; src_tls = passing.src_tls } in
+    let placed : Place → Place → CopyPlan = λ from to. plan_between cwd (lanes_for common) passing (short_for short_names from source) from to in
     let begun = bound (place_at cwd source) (λ from. place_at cwd dest >>= (λ to. apart (placed from to))) p planned.1 in
     let ended = bound (place_at cwd dest) (λ to. apart (placed begun.0 to)) p begun.2 in
     let two = apart_read (placed begun.0 ended.0) p ended.2 in
@@ -102,6 +102,9 @@ copy_read words cwd common passing quiet short_names source dest task is e =
       plain = whole.0;
       lanes = refl;
       tls = refl;
+      lookaside = refl;
+      verifier = refl;
+      folder = refl;
       policy = refl;
       conf = refl;
     }))
@@ -173,30 +176,35 @@ built_is : (common : Common) (passing : Passing) (plan : CopyPlan) → asks_more
 built_is common passing plan more is = rw (more, is) refl
 
 copy_is : (cwd : List ℕ) (common : Common) (passing : Passing) (short_names : Bool) (source dest : List ℕ) (task : CopyTask) → PlaceOf cwd source task.plan.source → PlaceOf cwd dest task.plan.dest → IsBetweenPlaces task.plan → are_built task.plan ≡ true
-    → task.plan.short ≡ short_for short_names task.plan.source source → asks_more common passing ≡ false → task.plan.lanes ≡ lanes_for common → task.plan.src_tls ≡ passing.src_tls → task.policy ≡ choice_of cwd common → task.conf ≡ conf_choice_of cwd common task.plan.source
+    → task.plan.short ≡ short_for short_names task.plan.source source → asks_more common passing ≡ false → task.plan.lanes ≡ lanes_for common → task.plan.src_tls ≡ passing.src_tls → task.plan.lookaside ≡ passing.lookaside → task.plan.verifier ≡ verifier_for cwd passing → task.plan.cwd ≡ cwd → task.policy ≡ choice_of cwd common → task.conf ≡ conf_choice_of cwd common task.plan.source
     → copy_of cwd common passing task.quiet short_names source dest ≡ Ok (Copy task)
 unfolding copy_of plan_of
-copy_is cwd common passing short_names source dest task from to between are short plain lanes tls policy conf =
-    let placed : Place → Place → CopyPlan = λ a b. record { source = a; short = short_for short_names a source; dest = b; lanes = lanes_for common; src_tls = passing.src_tls } in
+copy_is cwd common passing short_names source dest task from to between are short plain lanes tls lookaside verifier folder policy conf =
+    let placed : Place → Place → CopyPlan = λ a b. plan_between cwd (lanes_for common) passing (short_for short_names a source) a b in
+    let with : Option (List ℕ) → ℕ → Option Bool → Option (List ℕ) → Option (List ℕ) → List ℕ → CopyPlan
+    = λ s n t l v w. record { source = task.plan.source; short = s; dest = task.plan.dest; lanes = n; src_tls = t; lookaside = l; verifier = v; cwd = w } in
     let plan_is : placed task.plan.source task.plan.dest ≡ task.plan
-    = ap (λ s. record { source = task.plan.source; short = s; dest = task.plan.dest; lanes = lanes_for common; src_tls = passing.src_tls }) (sym short)
-    ∙ ap (λ n. record { source = task.plan.source; short = task.plan.short; dest = task.plan.dest; lanes = n; src_tls = passing.src_tls }) (sym lanes)
-    ∙ ap (λ t. record { source = task.plan.source; short = task.plan.short; dest = task.plan.dest; lanes = task.plan.lanes; src_tls = t }) (sym tls) in
+    = ap (λ s. with s (lanes_for common) passing.src_tls passing.lookaside (verifier_for cwd passing) cwd) (sym short)
+    ∙ ap (λ n. with task.plan.short n passing.src_tls passing.lookaside (verifier_for cwd passing) cwd) (sym lanes)
+    ∙ ap (λ t. with task.plan.short task.plan.lanes t passing.lookaside (verifier_for cwd passing) cwd) (sym tls)
+    ∙ ap (λ l. with task.plan.short task.plan.lanes task.plan.src_tls l (verifier_for cwd passing) cwd) (sym lookaside)
+    ∙ ap (λ v. with task.plan.short task.plan.lanes task.plan.src_tls task.plan.lookaside v cwd) (sym verifier)
+    ∙ ap (λ w. with task.plan.short task.plan.lanes task.plan.src_tls task.plan.lookaside task.plan.verifier w) (sym folder) in
     let done : CopyPlan → Result Task CommandRefusal = λ plan. Ok (Copy (record { policy = choice_of cwd common; conf = conf_choice_of cwd common plan.source; quiet = task.quiet; plan = plan })) in
     let task_is : record { policy = choice_of cwd common; conf = conf_choice_of cwd common task.plan.source; quiet = task.quiet; plan = task.plan } ≡ task
     = ap (λ c. record { policy = c; conf = conf_choice_of cwd common task.plan.source; quiet = task.quiet; plan = task.plan }) (sym policy) ∙ ap (λ c. record { policy = task.policy; conf = c; quiet = task.quiet; plan = task.plan }) (sym conf) in
     let end : apart (placed task.plan.source task.plan.dest) ≡ Ok task.plan = apart_is (placed task.plan.source task.plan.dest) (not_same task.plan.source task.plan.dest between) ∙ ap Ok plan_is in
-    let planned : plan_of cwd (lanes_for common) passing.src_tls short_names source dest ≡ Ok task.plan =
+    let planned : plan_of cwd (lanes_for common) passing short_names source dest ≡ Ok task.plan =
     bind (place_at cwd source) (λ a. place_at cwd dest >>= (λ b. apart (placed a b))) task.plan.source (Ok task.plan) (place_is cwd source task.plan.source from)
     (bind (place_at cwd dest) (λ b. apart (placed task.plan.source b)) task.plan.dest (Ok task.plan) (place_is cwd dest task.plan.dest to) end) in
-    bind (plan_of cwd (lanes_for common) passing.src_tls short_names source dest) (λ plan. built common passing plan >>= (λ _. done plan)) task.plan (Ok (Copy task)) planned
+    bind (plan_of cwd (lanes_for common) passing short_names source dest) (λ plan. built common passing plan >>= (λ _. done plan)) task.plan (Ok (Copy task)) planned
     (bind (built common passing task.plan) (λ _. done task.plan) tt (Ok (Copy task)) (built_is common passing task.plan plain are) (ap (λ t. Ok (Copy t)) task_is))
 
 pub copy_asked : (words : List (List ℕ)) (cwd : List ℕ) (task : CopyTask) → AsksCopy words cwd task → task_of words cwd ≡ Ok (Copy task)
 unfolding task_of task_in
 copy_asked words cwd task a =
     ap (by_words cwd) ((commands words (command.Copy a.common a.passing task.quiet a.short_names a.source a.dest)).1 (words_copied words a.common a.passing task.quiet a.short_names a.source a.dest a.asked))
-    ∙ copy_is cwd a.common a.passing a.short_names a.source a.dest task a.from a.to a.apart a.built a.short a.plain a.lanes a.tls a.policy a.conf
+    ∙ copy_is cwd a.common a.passing a.short_names a.source a.dest task a.from a.to a.apart a.built a.short a.plain a.lanes a.tls a.lookaside a.verifier a.folder a.policy a.conf
 
 -- ---- both ways
 

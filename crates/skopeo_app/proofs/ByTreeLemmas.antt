@@ -121,10 +121,10 @@ calm_back a b c calm later = record {
 }
 
 module _ (x y z : List LaneTold) (calm : OnEach (λ place a b. IsCalm a b) x z) (one : OnEach (λ place a b. IsLater a b) x y) (two : OnEach (λ place a b. IsLater a b) y z) where
-  front : OnEach (λ place a b. IsCalm a b) x y
+  pub front : OnEach (λ place a b. IsCalm a b) x y
   front = record { count = one.count; each = λ place a b ea eb. (let m = lane_at y z place b two.count eb in calm_front a b m.0 (calm.each place a m.0 ea m.1) (two.each place b m.0 eb m.1)) }
 
-  back : OnEach (λ place a b. IsCalm a b) y z
+  pub back : OnEach (λ place a b. IsCalm a b) y z
   back = record { count = two.count; each = λ place b c eb ec. (let m = lane_at y x place b (sym one.count) eb in calm_back m.0 b c (calm.each place m.0 c m.1 ec) (one.each place m.0 b m.1 eb)) }
 
 -- ---- one step after the other

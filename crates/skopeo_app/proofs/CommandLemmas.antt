@@ -5,6 +5,7 @@ use Rattle.skopeo_outside.specs.Seen.{Seen, KeepsFrom}
 use Rattle.skopeo_outside.specs.Steps.{Ends, Says, SaysBy}
 use Rattle.skopeo_outside.proofs.StepLemmas.{given_goes, given_stops}
 use Rattle.skopeo_outside.proofs.PlaceLemmas.{keeps_same}
+use Rattle.skopeo_outside.specs.Helper.{Runs}
 use Rattle.transports.specs.declared.refusal.Refusal.TheVariants as image
 use Rattle.transports.specs.Writes.{IsWrite}
 use Rattle.transports.proofs.SameLemmas.{none_same}
@@ -20,6 +21,7 @@ use Rattle.skopeo_app.specs.Sinks.{SinkTold}
 use Rattle.skopeo_app.specs.Refusals.{is_memory, is_output, is_of_words}
 use Rattle.skopeo_app.specs.Courses.{CommandTold, command_course}
 use Rattle.skopeo_app.specs.Task.{task_of, lanes_of}
+use Rattle.skopeo_app.specs.Asks.{AsksAt}
 use Rattle.skopeo_app.specs.Headline.{Headline}
 use Rattle.skopeo_app.specs.Ending.{page_done, task_end, ending}
 use Rattle.skopeo_app.specs.Stops.{Leaves, StopsAt, StandsAt, CopyStops}
@@ -28,6 +30,7 @@ use Rattle.skopeo_app.specs.Copies.{TaskHeadline, TaskLeaves, IsCopyAnswer}
 use Rattle.skopeo_app.specs.Prints.{IsPageAnswer}
 use Rattle.skopeo_app.specs.Runs.{IsRun, IsUntellable, Finishes}
 use Rattle.skopeo_app.proofs.AskedLaw.{asks_copy}
+use Rattle.skopeo_app.proofs.ImageLemmas.{none_asked}
 use Rattle.skopeo_app.proofs.RunLemmas.{told, IsLate, output_late, not_ahead, prints_value, prints_refusal}
 
 -- ---- the words
@@ -71,6 +74,11 @@ stops_same (Ok (Page text)) home cwd t e other = (refl, inl (record { same = ref
 stops_same (Ok (Copy task)) home cwd t e other = inl (gives_up_same task.plan t.seen, record { same = refl; other = other })
 stops_same (Err fault) home cwd t e other = (refl, record { same = refl; other = other })
 
+asks_none : (w : Result Task CommandRefusal) (runs : Runs) → AsksAt w runs runs
+asks_none (Ok (Page text)) runs = refl
+asks_none (Ok (Copy task)) runs = none_asked task.plan runs runs refl
+asks_none (Err fault) runs = refl
+
 -- the words are refused
 pub words_refused : (words : List (List ℕ)) (home cwd : List ℕ) (t : CommandTold) (e : CommandRefusal) → Says {A = Task} command_course (task_of words cwd) (Err e) → is_output e ≡ false → IsRun words home cwd t t (Err e)
 unfolding ending
@@ -78,6 +86,7 @@ words_refused words home cwd t e says other = record {
   headline = headline_same words home cwd t.seen;
   leaves = inl (untouched_each t.seen.lanes);
   rest = keeps_same (lanes_of (task_of words cwd)) t.seen.lanes;
+  asks = asks_none (task_of words cwd) t.seen.helper.runs;
   is = record {
     ends = given_stops command_course (task_of words cwd) (task_end home cwd) t e says;
     of_words = of_words_said words cwd e says;
@@ -103,6 +112,7 @@ page_told words home cwd text a o p (Ok done) says page = subst (λ d. IsRun wor
   headline = headline_same words home cwd a;
   leaves = inl (untouched_each a.lanes);
   rest = keeps_same (lanes_of (task_of words cwd)) a.lanes;
+  asks = asks_none (task_of words cwd) a.helper.runs;
   is = record {
     ends = task_ends words home cwd (Page text) (told a o) (told a p) (Ok (page_done text)) says (prints_value (page_done text) a o p (record { later = page.prints.later; printed = page.prints.printed; unprinted = tt; blamed = tt }));
     of_words = tt;
@@ -115,6 +125,7 @@ page_told words home cwd text a o p (Err e) says page = record {
   headline = headline_same words home cwd a;
   leaves = inl (untouched_each a.lanes);
   rest = keeps_same (lanes_of (task_of words cwd)) a.lanes;
+  asks = asks_none (task_of words cwd) a.helper.runs;
   is = record {
     ends = task_ends words home cwd (Page text) (told a o) (told a p) (Err e) says (prints_refusal (page_done text) a o p e (record { later = page.prints.later; printed = tt; unprinted = page.prints.unprinted; blamed = page.prints.blamed }));
     of_words = λ of. (let no : false ≡ true = sym late.words ∙ of in cc);
@@ -159,6 +170,7 @@ copy_told words home cwd task s t r says copy =
       headline = headline_of words home cwd task s.seen t.seen is copy.run.headline;
       leaves = leaves_of words home cwd task s.seen t.seen is copy.run.leaves;
       rest = subst (λ w. KeepsFrom (lanes_of w) s.seen.lanes t.seen.lanes) (sym is) copy.run.rest;
+      asks = subst (λ w. AsksAt w s.seen.helper.runs t.seen.helper.runs) (sym is) copy.run.asks;
       is = record {
         ends = task_ends words home cwd (Copy task) s t r says copy.ends;
         of_words = not_of_words words cwd r copy.other;

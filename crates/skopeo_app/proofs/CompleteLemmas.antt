@@ -4,6 +4,7 @@ use Rattle.std.specs.Bool.{⊤}
 use Rattle.skopeo_outside.specs.Tree.{Tree, file_at}
 use Rattle.skopeo_outside.specs.Outside.{Rose, Told}
 use Rattle.skopeo_outside.specs.LaneTold.{LaneTold, IsLater}
+use Rattle.skopeo_outside.specs.LaneLaws.{later_same}
 use Rattle.skopeo_outside.specs.Seen.{Seen, OnFirst, OnEach, KeepsFrom}
 use Rattle.skopeo_outside.specs.Steps.{Then, goes, stops, ◌>>=◌, given, Ends, EndsBy}
 use Rattle.skopeo_outside.specs.OnLanes.{LaneStep, SeenStep, on_first}
@@ -11,6 +12,8 @@ use Rattle.skopeo_outside.specs.declared.words.Fetched.{Fetched}
 use Rattle.image_ref.specs.declared.place.Place.TheVariants.{Dir}
 use Rattle.digest_reader.specs.declared.job.Job.{Job}
 use Rattle.layouts.specs.Destination.{MayReplace}
+use Rattle.manifest_convert.specs.Blobs.{blobs}
+use Rattle.policy_scope.specs.Chosen.{chosen}
 use Rattle.layouts.specs.Paths.{blob_path}
 use Rattle.layouts.proofs.NameLemmas.{blob_in}
 use Rattle.manifest_v2s2.specs.declared.image.Image.{Image as ImageRead}
@@ -32,6 +35,7 @@ use Rattle.transports.specs.Refusals as of
 use Rattle.transports.specs.Places.{AreApart, dest_at}
 use Rattle.transports.specs.Courses.{lane_course}
 use Rattle.transports.specs.Blobs.{looked_at, is_whole, limit_of, mismatch_of}
+use Rattle.transports.specs.Stores.{StoreAt, store_of}
 use Rattle.transports.specs.Given.{ManifestEnds, SignaturesEnd, Spares, SameIn}
 use Rattle.transports.specs.Has.{MayTake, MayNotTake}
 use Rattle.transports.specs.StepEnds.{reading, taking, putting, FailsBy}
@@ -39,17 +43,20 @@ use Rattle.transports.specs.Fair.{Works}
 use Rattle.transports.proofs.GivenLemmas.{only_spares}
 use Rattle.transports.proofs.WorkLemmas.{works_later, works_only}
 use Rattle.transports.specs.declared.found.Found.{Found}
-use Rattle.admission.specs.declared.take.Taken.{Taken}
 use Rattle.admission.specs.Parts.{kind_in, image_in}
-use Rattle.admission.specs.Admission.{Admission, admitted_of}
+use Rattle.admission.specs.Admission.{Admission}
+use Rattle.admission.specs.GateTold.{GateTold, on_lane, gate_course}
+use Rattle.admission.specs.Judged.{Submission, judging}
+use Rattle.admission.specs.Taken.{TakenImage}
 use Rattle.transports.specs.Found.{in_folder, found_for, found_as, found_by, found}
 use Rattle.transports.specs.declared.found.FoundImage.{FoundImage}
 use Rattle.skopeo_app.specs.Plan.{short_for}
-use Rattle.admission.specs.Walk.{admission}
+use Rattle.admission.specs.Walk.{submission, admission}
 use Rattle.copy_jobs.specs.Secured.{JobsEnd, IsLeast, SameBlobs, first_fault}
 use Rattle.copy_jobs.proofs.EndLemmas.{TellsBlobs, TellBlobs, ends_at, done_no_fault, least_is_fault}
 use Rattle.copy_engine.specs.Report.{copied_of}
-use Rattle.copy_engine.specs.Walk.{securing, readying, placing, image_end}
+use Rattle.copy_engine.specs.Walk.{at_gate, securing, readying, placing, image_end}
+use Rattle.copy_engine.proofs.LiftLemmas.{first_with}
 use Rattle.copy_engine.proofs.ReadyLemmas.{all_later}
 use Rattle.skopeo_app.specs.declared.refusal.CommandRefusal.{CommandRefusal}
 use Rattle.skopeo_app.specs.declared.refusal.CommandRefusal.TheVariants.{Words, Reference, SamePlace, NotBuilt, PolicyMissing, PolicyInvalid, PolicyTooLarge, ConfMissing, ConfInvalid, ConfTooLarge, Image, Output}
@@ -59,7 +66,7 @@ use Rattle.skopeo_app.specs.declared.task.PolicyChoice.{PolicyChoice}
 use Rattle.skopeo_app.specs.declared.task.PolicyChoice.TheVariants.{Anything, Named, Usual}
 use Rattle.skopeo_app.specs.declared.rules.Rules.{Rules}
 use Rattle.skopeo_app.specs.declared.task.ConfChoice.{ConfChoice}
-use Rattle.skopeo_app.specs.declared.task.ConfChoice.TheVariants as chosen
+use Rattle.skopeo_app.specs.declared.task.ConfChoice.TheVariants as conf_of
 use Rattle.skopeo_app.specs.declared.task.Task.{Task}
 use Rattle.skopeo_app.specs.declared.task.Task.TheVariants.{Copy}
 use Rattle.skopeo_app.specs.Refusals.{is_memory, is_free, Shows, IsOfOutput, BlamesOutput}
@@ -74,9 +81,10 @@ use Rattle.skopeo_app.specs.Headline.{first_tree}
 use Rattle.skopeo_app.specs.Rows.{image_row, row_of}
 use Rattle.skopeo_app.specs.Lines.{status_of}
 use Rattle.skopeo_app.specs.Ending.{copy_done, of_image, image_of_task, on_lanes, printing, copy_end, task_end, ending}
-use Rattle.skopeo_app.specs.ByTree.{and_then, policy_at, manifest_of, signatures_of, admitted_in, placed_in, copy_in, or_image, answer_in}
+use Rattle.skopeo_app.specs.ByTree.{and_then, policy_at, manifest_of, signatures_of, submission_of, submitted_in, judged_by, admitted_in, copied_in, placed_in, copy_in, or_image, answer_in}
 use Rattle.skopeo_app.specs.Complete.{StartsWith, AllStart, Judges, IsCalm, AreCalm, EndsByTree, IsGood, GoodEnds}
-use Rattle.skopeo_app.proofs.ByTreeLemmas.{wants, Comes, value_is, comes_as, flat, refused_as, Tells, told, Equals, equal_then, given_as, Goes, goes_then, goes_given, goes_first, Calm, comes_then, comes_given, given_same, some_lane, first_tells, first_comes, first_still}
+use Rattle.skopeo_app.proofs.ByTreeLemmas.{wants, Comes, value_is, comes_as, flat, refused_as, Tells, told, Equals, equal_then, given_as, Goes, goes_then, goes_given, first_each, goes_first, Calm, front, back, comes_then, comes_given, given_same, some_lane, first_tells, first_comes, first_still}
+use Rattle.skopeo_app.proofs.JudgedLemmas.{JudgedAs, judged_as}
 use Rattle.skopeo_app.proofs.AskedLaw.{asks_copy}
 use Rattle.skopeo_app.proofs.RulesLemmas.{rules_of, both}
 
@@ -88,16 +96,13 @@ some_same t u e = cc
 abbrev found_of : Source → Fetched → Found
 found_of from fetched = record { from = from; fetched = fetched }
 
-abbrev taken_of : Source → Admission → Taken
-taken_of from image = record { from = from; image = image }
-
 manifest_equals : (tree : Tree) (folder : List ℕ) → Equals tree (reading (ManifestEnds (source.Folder folder) None)) (manifest_of tree folder)
 unfolding ManifestEnds
 manifest_equals tree folder a b r end tells = (told tree (λ t. r ≡ manifest_of t folder) a.files.tree tells end.0, end.1.files ∙ tells)
 
-signatures_equal : (tree : Tree) (folder : List ℕ) → Equals tree (reading (SignaturesEnd (source.Folder folder) None)) (signatures_of tree folder)
+signatures_equal : (tree : Tree) (folder : List ℕ) (store : Option StoreAt) → Equals tree (reading (SignaturesEnd (source.Folder folder) store None)) (signatures_of tree folder)
 unfolding SignaturesEnd
-signatures_equal tree folder a b r end tells = (told tree (λ t. r ≡ signatures_of t folder) a.files.tree tells end.0, end.1.files ∙ tells)
+signatures_equal tree folder store a b r end tells = (told tree (λ t. r ≡ signatures_of t folder) a.files.tree tells end.0, end.1.files ∙ tells)
 
 ok_same : {A E : Type 0} (x y : A) → ◌≡◌ {A = Result A E} (Ok x) (Ok y) → x ≡ y
 ok_same x y e = cc
@@ -136,62 +141,6 @@ image_found : (folder : List ℕ) (m : Result Fetched Refusal) (it : FoundImage)
 image_found folder (Ok fetched) it e = let is = ok_same {E = Refusal} it (found_in folder fetched) e in (ap (λ (f : FoundImage). f.place) is, ap (λ (f : FoundImage). f.found.from) is)
 image_found folder (Err d) it e = let no : ◌≡◌ {A = Result FoundImage Refusal} (Ok it) (Err d) = e in cc
 
--- the steps behind the manifest
-abbrev signed : Tree → List ℕ → PolicyLists → Fetched → Kind → ImageRead → Result Admission Refusal
-signed tree folder policy fetched kind image = and_then (signatures_of tree folder) (λ signatures. admitted_of policy (Dir folder) fetched kind image signatures)
-
-abbrev imaged : Tree → List ℕ → PolicyLists → Fetched → Kind → Result Admission Refusal
-imaged tree folder policy fetched kind = and_then (image_in kind fetched) (λ image. signed tree folder policy fetched kind image)
-
-abbrev judged : Tree → List ℕ → PolicyLists → Fetched → Result Admission Refusal
-judged tree folder policy fetched = and_then (kind_in fetched) (λ kind. imaged tree folder policy fetched kind)
-
-abbrev take_it : List ℕ → Result Admission Refusal → Result Taken Refusal
-take_it folder w = and_then w (λ image. Ok (taken_of (source.Folder folder) image))
-
-admission_equals : (tree : Tree) (folder : List ℕ) (plan : CopyPlan) (conf : Settings) (policy : PolicyLists) → plan.source ≡ Dir folder → plan.short ≡ None → Equals tree (admission plan conf policy) (take_it folder (admitted_in tree folder policy))
-unfolding admission admitted_in
-admission_equals tree folder plan conf policy is whole a b r end tells =
-    let got = walk a b r end tells in
-    (got.0 ∙ flatten (manifest_of tree folder), got.1)
-  where
-    flatten : (m : Result Fetched Refusal) → take_it folder (and_then (and_then m (λ fetched. Ok (found_in folder fetched))) (λ (it : FoundImage). judged tree folder policy it.found.fetched)) ≡ take_it folder (and_then m (λ fetched. judged tree folder policy fetched))
-    flatten (Ok fetched) = refl
-    flatten (Err e) = refl
-
-    last : (it : FoundImage) (kind : Kind) (image : ImageRead) (signatures : List (List ℕ)) → it.place ≡ Dir folder → it.found.from ≡ source.Folder folder
-        → Equals tree (given (admitted_of policy it.place it.found.fetched kind image signatures) >>= (λ admitted. given (Ok (taken_of it.found.from admitted)))) (take_it folder (admitted_of policy (Dir folder) it.found.fetched kind image signatures))
-    last it kind image signatures named from =
-        equal_then tree (given (admitted_of policy it.place it.found.fetched kind image signatures)) (λ admitted. given (Ok (taken_of it.found.from admitted)))
-        (admitted_of policy (Dir folder) it.found.fetched kind image signatures) (λ u. take_it folder u) (λ e. refl)
-        (given_as tree (admitted_of policy it.place it.found.fetched kind image signatures) (admitted_of policy (Dir folder) it.found.fetched kind image signatures) (ap (λ p. admitted_of policy p it.found.fetched kind image signatures) named))
-        (λ admitted e. given_as tree (Ok (taken_of it.found.from admitted)) (Ok (taken_of (source.Folder folder) admitted)) (ap (λ s. Ok (taken_of s admitted)) from))
-
-    read : (it : FoundImage) → it.found.from ≡ source.Folder folder → Equals tree (reading (SignaturesEnd it.found.from None)) (signatures_of tree folder)
-    read it from = subst (λ s. Equals tree (reading (SignaturesEnd s None)) (signatures_of tree folder)) (sym from) (signatures_equal tree folder)
-
-    rest : (it : FoundImage) → it.place ≡ Dir folder → it.found.from ≡ source.Folder folder → Equals tree (given (kind_in it.found.fetched) >>= (λ kind. given (image_in kind it.found.fetched) >>= (λ image. reading (SignaturesEnd it.found.from None) >>= (λ signatures. given (admitted_of policy it.place it.found.fetched kind image signatures) >>= (λ admitted. given (Ok (taken_of it.found.from admitted)))))))
-        (take_it folder (judged tree folder policy it.found.fetched))
-    rest it named from =
-        equal_then tree (given (kind_in it.found.fetched)) _ (kind_in it.found.fetched) (λ u. take_it folder (and_then u (λ kind. imaged tree folder policy it.found.fetched kind))) (λ e. refl)
-        (given_as tree (kind_in it.found.fetched) (kind_in it.found.fetched) refl)
-        (λ kind k. equal_then tree (given (image_in kind it.found.fetched)) _ (image_in kind it.found.fetched) (λ u. take_it folder (and_then u (λ image. signed tree folder policy it.found.fetched kind image))) (λ e. refl)
-        (given_as tree (image_in kind it.found.fetched) (image_in kind it.found.fetched) refl)
-        (λ image i. equal_then tree (reading (SignaturesEnd it.found.from None)) _ (signatures_of tree folder) (λ u. take_it folder (and_then u (λ signatures. admitted_of policy (Dir folder) it.found.fetched kind image signatures))) (λ e. refl)
-        (read it from)
-        (λ signatures s. last it kind image signatures named from)))
-
-    walk : Equals tree (admission plan conf policy) (take_it folder (and_then (and_then (manifest_of tree folder) (λ fetched. Ok (found_in folder fetched))) (λ (it : FoundImage). judged tree folder policy it.found.fetched)))
-    walk = equal_then tree (found plan conf) _ (and_then (manifest_of tree folder) (λ fetched. Ok (found_in folder fetched)))
-        (λ u. take_it folder (and_then u (λ (it : FoundImage). judged tree folder policy it.found.fetched))) (λ e. refl)
-        (found_equals tree folder plan conf is whole)
-        (λ it e. let f = image_found folder (manifest_of tree folder) it e in rest it f.0 f.1)
-
--- the source of what was admitted
-from_taken : (folder : List ℕ) (m : Result Admission Refusal) (it : Taken) → Ok it ≡ take_it folder m → it.from ≡ source.Folder folder
-from_taken folder (Ok image) it e = ap (λ (t : Taken). t.from) (ok_same {E = Refusal} it (taken_of (source.Folder folder) image) e)
-from_taken folder (Err d) it e = let no : ◌≡◌ {A = Result Taken Refusal} (Ok it) (Err d) = e in cc
-
 -- ---- a step on one lane
 
 free_comes : {A : Type 0} (e : Refusal) (w : Result A Refusal) (a b : LaneTold) → IsCalm a b → of.is_free e ≡ true → of.Shows e a b → Comes of.is_memory (Err e) w
@@ -209,6 +158,13 @@ free_comes (image.Blocked n) w a b calm is shows = let no : false ≡ true = is 
 free_comes (image.BadReference text fault) w a b calm is shows = let no : false ≡ true = is in cc
 free_comes (image.ShortName text count) w a b calm is shows = let no : false ≡ true = is in cc
 free_comes (image.NoSource attempts) w a b calm is shows = let no : false ≡ true = is in cc
+free_comes (image.TlsRequired host) w a b calm is shows = let no : false ≡ true = is in cc
+free_comes (image.Garbled status first) w a b calm is shows = let no : false ≡ true = is in cc
+free_comes (image.BadAnswer step first) w a b calm is shows = let no : false ≡ true = is in cc
+free_comes (image.LookasideRefused number status) w a b calm is shows = let no : false ≡ true = is in cc
+free_comes (image.Encoded step) w a b calm is shows = let no : false ≡ true = is in cc
+free_comes (image.TooManyRedirects step) w a b calm is shows = let no : false ≡ true = is in cc
+free_comes (image.Helper count) w a b calm is shows = let no : false ≡ true = is in cc
 
 lane_comes : {A : Type 0} (step : LaneStep Refusal A) (w : Result A Refusal) (a b : LaneTold) (r : Result A Refusal) → IsCalm a b → Ends lane_course step a b r → ((s : Result A Refusal) → step a b s → s ≡ w) → Comes of.is_memory r w
 unfolding Ends lane_course
@@ -230,6 +186,147 @@ lane_later step a b r end = end.later
 goes_on : {A : Type 0} (step : LaneStep Refusal A) → Goes (on_first lane_course step)
 goes_on step = goes_first lane_course step (lane_later step)
 
+-- the steps behind the manifest
+abbrev signed : Tree → List ℕ → Fetched → Kind → ImageRead → Result Submission Refusal
+signed tree folder fetched kind image = and_then (signatures_of tree folder) (λ signatures. Ok (submission_of folder fetched kind image signatures))
+
+abbrev imaged : Tree → List ℕ → Fetched → Kind → Result Submission Refusal
+imaged tree folder fetched kind = and_then (image_in kind fetched) (λ image. signed tree folder fetched kind image)
+
+abbrev behind : Tree → List ℕ → Fetched → Result Submission Refusal
+behind tree folder fetched = and_then (kind_in fetched) (λ kind. imaged tree folder fetched kind)
+
+submission_equals : (tree : Tree) (folder : List ℕ) (plan : CopyPlan) (conf : Settings) → plan.source ≡ Dir folder → plan.short ≡ None → Equals tree (submission plan conf) (submitted_in tree folder)
+unfolding submission submitted_in
+submission_equals tree folder plan conf is whole a b r end tells =
+    let got = walk a b r end tells in
+    (got.0 ∙ flatten (manifest_of tree folder), got.1)
+  where
+    flatten : (m : Result Fetched Refusal) → and_then (and_then m (λ fetched. Ok (found_in folder fetched))) (λ (it : FoundImage). behind tree folder it.found.fetched) ≡ and_then m (λ fetched. behind tree folder fetched)
+    flatten (Ok fetched) = refl
+    flatten (Err e) = refl
+
+    put : FoundImage → Kind → ImageRead → List (List ℕ) → Submission
+    put it kind image signatures = record { from = it.found.from; place = it.place; manifest = it.found.fetched.bytes; kind = kind; image = image; signatures = signatures }
+
+    put_is : (it : FoundImage) (kind : Kind) (image : ImageRead) (signatures : List (List ℕ)) → it.place ≡ Dir folder → it.found.from ≡ source.Folder folder → put it kind image signatures ≡ submission_of folder it.found.fetched kind image signatures
+    put_is it kind image signatures named from =
+        ap (λ p. record { from = it.found.from; place = p; manifest = it.found.fetched.bytes; kind = kind; image = image; signatures = signatures }) named
+        ∙ ap (λ f. record { from = f; place = Dir folder; manifest = it.found.fetched.bytes; kind = kind; image = image; signatures = signatures }) from
+
+    read : (it : FoundImage) → it.found.from ≡ source.Folder folder → Equals tree (reading (SignaturesEnd it.found.from (store_of plan it.place it.found.fetched.bytes) None)) (signatures_of tree folder)
+    read it from =
+        subst (λ f. Equals tree (reading (SignaturesEnd f (store_of plan it.place it.found.fetched.bytes) None)) (signatures_of tree folder)) (sym from)
+        (signatures_equal tree folder (store_of plan it.place it.found.fetched.bytes))
+
+    rest : (it : FoundImage) → it.place ≡ Dir folder → it.found.from ≡ source.Folder folder
+        → Equals tree (given (kind_in it.found.fetched) >>= (λ kind. given (image_in kind it.found.fetched) >>= (λ image. reading (SignaturesEnd it.found.from (store_of plan it.place it.found.fetched.bytes) None) >>= (λ signatures. given (Ok (put it kind image signatures))))))
+        (behind tree folder it.found.fetched)
+    rest it named from =
+        equal_then tree (given (kind_in it.found.fetched)) _ (kind_in it.found.fetched) (λ u. and_then u (λ kind. imaged tree folder it.found.fetched kind)) (λ e. refl)
+        (given_as tree (kind_in it.found.fetched) (kind_in it.found.fetched) refl)
+        (λ kind k. equal_then tree (given (image_in kind it.found.fetched)) _ (image_in kind it.found.fetched) (λ u. and_then u (λ image. signed tree folder it.found.fetched kind image)) (λ e. refl)
+        (given_as tree (image_in kind it.found.fetched) (image_in kind it.found.fetched) refl)
+        (λ image i. equal_then tree (reading (SignaturesEnd it.found.from (store_of plan it.place it.found.fetched.bytes) None)) (λ signatures. given (Ok (put it kind image signatures))) (signatures_of tree folder)
+        (λ u. and_then u (λ signatures. Ok (submission_of folder it.found.fetched kind image signatures))) (λ e. refl)
+        (read it from)
+        (λ signatures g. given_as tree (Ok (put it kind image signatures)) (Ok (submission_of folder it.found.fetched kind image signatures)) (ap Ok (put_is it kind image signatures named from)))))
+
+    walk : Equals tree (submission plan conf) (and_then (and_then (manifest_of tree folder) (λ fetched. Ok (found_in folder fetched))) (λ (it : FoundImage). behind tree folder it.found.fetched))
+    walk = equal_then tree (found plan conf) _ (and_then (manifest_of tree folder) (λ fetched. Ok (found_in folder fetched)))
+        (λ u. and_then u (λ (it : FoundImage). behind tree folder it.found.fetched)) (λ e. refl)
+        (found_equals tree folder plan conf is whole)
+        (λ it e. let f = image_found folder (manifest_of tree folder) it e in rest it f.0 f.1)
+
+-- a value behind two steps comes of a value of the first
+split : {A B : Type 0} (w : Result A Refusal) (f : A → Result B Refusal) (y : B) → Ok y ≡ and_then w f → (x : A) × (Ok y ≡ f x)
+split {B = B} (Ok x) f y e = (x, e)
+split {B = B} (Err d) f y e = let no : ◌≡◌ {A = Result B Refusal} (Ok y) (Err d) = e in cc
+
+record IsOfFolder (folder : List ℕ) (s : Submission) : Type 0 where
+  pub place : s.place ≡ Dir folder
+  pub from : s.from ≡ source.Folder folder
+
+submitted_of : (tree : Tree) (folder : List ℕ) (s : Submission) → Ok s ≡ submitted_in tree folder → IsOfFolder folder s
+unfolding submitted_in
+submitted_of tree folder s is =
+    let fetched = split (manifest_of tree folder) (λ fetched. behind tree folder fetched) s is in
+    let kind = split (kind_in fetched.0) (λ kind. imaged tree folder fetched.0 kind) s fetched.1 in
+    let image = split (image_in kind.0 fetched.0) (λ image. signed tree folder fetched.0 kind.0 image) s kind.1 in
+    let signatures = split (signatures_of tree folder) (λ signatures. Ok (submission_of folder fetched.0 kind.0 image.0 signatures)) s image.1 in
+    let same = ok_same {E = Refusal} s (submission_of folder fetched.0 kind.0 image.0 signatures.0) signatures.1 in
+    record { place = ap (λ (v : Submission). v.place) same; from = ap (λ (v : Submission). v.from) same }
+
+-- ---- the gate
+
+-- the folder's image was admitted, as the tree says
+record IsTaken (tree : Tree) (folder : List ℕ) (policy : PolicyLists) (it : TakenImage) (s : Submission) : Type 0 where
+  pub admitted : admitted_in tree folder policy ≡ Ok s
+  pub from : it.from ≡ source.Folder folder
+  pub jobs : it.image.jobs ≡ blobs s.image
+  pub copied : copied_of it.image ≡ copied_in s
+
+-- it was, and the lane tells the tree still; or why not, as the tree says
+abbrev GivenBy : Tree → List ℕ → PolicyLists → LaneTold → Result TakenImage Refusal → Type 0
+GivenBy tree folder policy b (Ok it) = ((s : Submission) × IsTaken tree folder policy it s) × Tells tree b
+GivenBy tree folder policy b (Err e) = Comes {A = Submission} of.is_memory (Err e) (admitted_in tree folder policy)
+
+module _ (tree : Tree) (folder : List ℕ) (plan : CopyPlan) (conf : Settings) (policy : PolicyLists) (from : plan.source ≡ Dir folder) (whole : plan.short ≡ None) (alone : plan.verifier ≡ None) where
+  -- behind what is put to the gate
+  abbrev gated : Result Submission Refusal → Result Submission Refusal
+  gated w = and_then w (λ s. and_then (judged_by (chosen policy (Dir folder)) s.signatures) (λ _. Ok s))
+
+  admitted_is : (s : Submission) (w : Result ⊤ Refusal) → Ok s ≡ submitted_in tree folder → judged_by (chosen policy s.place) s.signatures ≡ w → admitted_in tree folder policy ≡ and_then w (λ _. Ok s)
+  unfolding admitted_in
+  admitted_is s w is judged =
+      ap gated (sym is)
+      ∙ ap (λ u. and_then u (λ _. Ok s)) (ap (λ p. judged_by (chosen policy p) s.signatures) (sym (submitted_of tree folder s is).place) ∙ judged)
+
+  judged_comes : (s : Submission) (a b : GateTold) (r : Result TakenImage Refusal) → Ok s ≡ submitted_in tree folder → Tells tree b.lane → JudgedAs plan policy s a b r → GivenBy tree folder policy b.lane r
+  judged_comes s a b (Ok it) is tells (holds, same) = (
+    (
+      s,
+      record {
+        admitted = admitted_is s (Ok tt) is holds;
+        from = ap (λ (t : TakenImage). t.from) same ∙ (submitted_of tree folder s is).from;
+        jobs = ap (λ (t : TakenImage). t.image.jobs) same;
+        copied = ap (λ (t : TakenImage). copied_of t.image) same;
+      },
+    ),
+    tells,
+  )
+  judged_comes s a b (Err e) is tells (inl memory) = inl memory
+  judged_comes s a b (Err e) is tells (inr refused) = inr (sym (admitted_is s (Err e) is refused))
+
+  judging_tells : (s : Submission) (a b : GateTold) (r : Result TakenImage Refusal) → judging plan policy s a b r → Tells tree a.lane → Tells tree b.lane
+  unfolding judging
+  judging_tells s a b r end tells = end.untouched.files ∙ tells
+
+  submission_refused : (a b : LaneTold) (e : Refusal) → IsCalm a b → Tells tree a → Ends lane_course (submission plan conf) a b (Err e) → Comes {A = Submission} of.is_memory (Err e) (admitted_in tree folder policy)
+  unfolding admitted_in
+  submission_refused a b e calm tells end =
+      refused_as of.is_memory e (submitted_in tree folder) gated (λ d. refl)
+      (lane_comes (submission plan conf) (submitted_in tree folder) a b (Err e) calm end (λ r one. (submission_equals tree folder plan conf from whole a b r one tells).0))
+
+  admission_comes : (a b : GateTold) (r : Result TakenImage Refusal) → IsCalm a.lane b.lane → Tells tree a.lane → admission plan conf policy a b r → GivenBy tree folder policy b.lane r
+  unfolding admission on_lane
+  admission_comes a b r calm tells end = by a b r calm tells end
+    where
+      by : (a b : GateTold) (r : Result TakenImage Refusal) → IsCalm a.lane b.lane → Tells tree a.lane → Then (on_lane (submission plan conf)) (judging plan policy) a b r → GivenBy tree folder policy b.lane r
+      by a b r calm tells (goes k m t s w one two) =
+          let put = submission_equals tree folder plan conf from whole k.lane m.lane (Ok s) (lane_value (submission plan conf) k.lane m.lane s one.0) tells in
+          judged_comes s m t w put.0 (judging_tells s m t w two put.1) (judged_as plan policy s m t w alone two)
+      by a b r calm tells (stops k t e one) = submission_refused k.lane t.lane e calm tells one.0
+
+  gate_comes : (a b : GateTold) (r : Result TakenImage Refusal) → IsCalm a.lane b.lane → Tells tree a.lane → Ends gate_course (admission plan conf policy) a b r → GivenBy tree folder policy b.lane r
+  unfolding Ends gate_course
+  gate_comes a b (Ok it) calm tells end = admission_comes a b (Ok it) calm tells end.ends
+  gate_comes a b (Err e) calm tells end = by (of.is_memory e) refl end.ends
+    where
+      by : (m : Bool) → of.is_memory e ≡ m → EndsBy {A = TakenImage} m gate_course e (admission plan conf policy) a b → GivenBy tree folder policy b.lane (Err e)
+      by true is shown = inl is
+      by false is one = admission_comes a b (Err e) calm tells one
+
 -- ---- each step goes on
 
 goes_securing : (from : Source) (to : Dest) (jobs : List Job) → Goes (securing from to jobs)
@@ -247,10 +344,16 @@ goes_placing : (from : Source) (to : Dest) (it : Admission) → Goes (placing fr
 unfolding placing
 goes_placing from to it = goes_then (readying from to it.jobs) (λ _. on_first lane_course (putting to) >>= (λ _. given (Ok (copied_of it)))) (goes_readying from to it.jobs) (λ v. goes_putting to (copied_of it))
 
+goes_gate : (plan : CopyPlan) (conf : Settings) (policy : PolicyLists) → Goes (at_gate (admission plan conf policy))
+unfolding at_gate Ends gate_course
+goes_gate plan conf policy x y r end =
+    first_each IsLater later_same x.lanes y.lanes
+    (first_with (λ a b. Ends gate_course (admission plan conf policy) (record { lane = a; helper = x.helper }) (record { lane = b; helper = y.helper }) r) IsLater (λ a b e. e.later.lane) x.lanes y.lanes end.0) end.1
+
 goes_image : (plan : CopyPlan) (conf : Settings) (policy : PolicyLists) → Goes (image_end plan conf policy)
 unfolding image_end
-goes_image plan conf policy = goes_then (given (dest_at plan.dest)) (λ to. on_first lane_course (admission plan conf policy) >>= (λ it. placing it.from to it.image)) (goes_given (dest_at plan.dest))
-    (λ to. goes_then (on_first lane_course (admission plan conf policy)) (λ it. placing it.from to it.image) (goes_on (admission plan conf policy)) (λ it. goes_placing it.from to it.image))
+goes_image plan conf policy = goes_then (given (dest_at plan.dest)) (λ to. at_gate (admission plan conf policy) >>= (λ it. placing it.from to it.image)) (goes_given (dest_at plan.dest))
+    (λ to. goes_then (at_gate (admission plan conf policy)) (λ it. placing it.from to it.image) (goes_gate plan conf policy) (λ it. goes_placing it.from to it.image))
 
 -- ---- the same in the command's course
 
@@ -302,6 +405,23 @@ begins_still folder tree x y begins kept first = record { first = first; same = 
     same : AllStart folder tree y
     same zero lane at = record { files = tree; told = first_tells tree y.lanes lane first at; same = λ digest. refl }
     same (suc place) lane at = begins.same (suc place) lane (sym (kept.rest (suc place) (omega arith)) ∙ at)
+
+-- what source and gate came to on the first lane
+first_gate : (tree : Tree) (folder : List ℕ) (plan : CopyPlan) (conf : Settings) (policy : PolicyLists) → plan.source ≡ Dir folder → plan.short ≡ None → plan.verifier ≡ None
+    → (x y : Seen) (r : Result TakenImage Refusal) → at_gate (admission plan conf policy) x y r → Begins folder tree x → Calm x y → (b : LaneTold) × GivenBy tree folder policy b r × ((b.files.tree ≡ Some tree) → first_tree y.lanes ≡ Some tree)
+unfolding at_gate
+first_gate tree folder plan conf policy from whole alone x y r end begins calm = by x.lanes y.lanes end.0 begins.first calm
+  where
+    by : (k l : List LaneTold) → OnFirst (λ a b. Ends gate_course (admission plan conf policy) (record { lane = a; helper = x.helper }) (record { lane = b; helper = y.helper }) r) k l → first_tree k ≡ Some tree
+        → OnEach (λ place a b. IsCalm a b) k l → (b : LaneTold) × GivenBy tree folder policy b r × ((b.files.tree ≡ Some tree) → first_tree l ≡ Some tree)
+    by [] l e first calm = let no : None ≡ Some tree = first in cc
+    by (a ∷ k) [] e first calm = absurd e
+    by (a ∷ k) (b ∷ l) e first calm =
+        (b, gate_comes tree folder plan conf policy from whole alone (record { lane = a; helper = x.helper }) (record { lane = b; helper = y.helper }) r (calm.each 0 a b refl refl) first e, λ tells. tells)
+
+gate_kept : (plan : CopyPlan) (conf : Settings) (policy : PolicyLists) (x y : Seen) (r : Result TakenImage Refusal) → at_gate (admission plan conf policy) x y r → KeepsFrom 1 x.lanes y.lanes
+unfolding at_gate
+gate_kept plan conf policy x y r end = end.1
 
 first_kept : {A : Type 0} (step : LaneStep Refusal A) (x y : Seen) (r : Result A Refusal) → on_first lane_course step x y r → KeepsFrom 1 x.lanes y.lanes
 unfolding on_first
@@ -438,8 +558,12 @@ module _ (tree : Tree) (folder target : List ℕ) (apart : folder ≢ target) (t
       put a b (Ok v) end = refl
       put a b (Err e) end = absurd end
 
-  placing_comes : (it : Admission) (x y : Seen) (r : Result Copied Refusal) → placing (source.Folder folder) (dest.Folder target) it x y r → Begins folder tree x → Calm x y → Comes of.is_memory r (placed_in tree folder taken it)
-  unfolding placing placed_in
+  -- an admitted image at its destination
+  abbrev placed_at : Admission → Result Copied Refusal
+  placed_at it = and_then taken (λ _. and_then (first_fault tree folder it.jobs) (λ _. Ok (copied_of it)))
+
+  placing_comes : (it : Admission) (x y : Seen) (r : Result Copied Refusal) → placing (source.Folder folder) (dest.Folder target) it x y r → Begins folder tree x → Calm x y → Comes of.is_memory r (placed_at it)
+  unfolding placing
   placing_comes it x y r end begins calm =
       comes_as of.is_memory r (and_then (and_then taken (λ _. first_fault tree folder it.jobs)) (λ _. Ok (copied_of it))) (and_then taken (λ _. and_then (first_fault tree folder it.jobs) (λ _. Ok (copied_of it))))
       (comes_then of.is_memory (readying (source.Folder folder) (dest.Folder target) it.jobs) (λ _. on_first lane_course (putting (dest.Folder target)) >>= (λ _. given (Ok (copied_of it))))
@@ -454,37 +578,44 @@ module _ (tree : Tree) (folder target : List ℕ) (apart : folder ≢ target) (t
       some_still : (a m : Seen) → 0 < length a.lanes → OnEach (λ place a b. IsLater a b) a.lanes m.lanes → 0 < length m.lanes
       some_still a m some later = let n = later.count in omega arith
 
+  placed_is : (it : TakenImage) (s : Submission) (policy : PolicyLists) → IsTaken tree folder policy it s → placed_at it.image ≡ placed_in tree folder taken s
+  unfolding placed_in
+  placed_is it s policy is =
+      ap (λ jobs. and_then taken (λ _. and_then (first_fault tree folder jobs) (λ _. Ok (copied_of it.image)))) is.jobs
+      ∙ ap (λ told. and_then taken (λ _. and_then (first_fault tree folder (blobs s.image)) (λ _. Ok told))) is.copied
+
   -- ---- one image
 
   abbrev copied : PolicyLists → Result Copied Refusal
-  copied policy = and_then (admitted_in tree folder policy) (λ it. placed_in tree folder taken it)
+  copied policy = and_then (admitted_in tree folder policy) (λ s. placed_in tree folder taken s)
 
-  image_comes : (plan : CopyPlan) (conf : Settings) (policy : PolicyLists) → plan.source ≡ Dir folder → plan.short ≡ None → plan.dest ≡ Dir target → (x y : Seen) (r : Result Copied Refusal) → image_end plan conf policy x y r → Begins folder tree x → Calm x y
-      → Comes of.is_memory r (copy_in tree folder taken policy)
+  behind_gate : (plan : CopyPlan) (conf : Settings) (policy : PolicyLists) → plan.source ≡ Dir folder → plan.short ≡ None → plan.verifier ≡ None
+      → (m b : Seen) (r : Result Copied Refusal) → (at_gate (admission plan conf policy) >>= (λ it. placing it.from (dest.Folder target) it.image)) m b r → Begins folder tree m → Calm m b → Comes of.is_memory r (copied policy)
+  behind_gate plan conf policy from whole alone m b r (goes k l t it w one two) i c =
+      let before = goes_gate plan conf policy k l (Ok it) one in
+      let behind = goes_placing it.from (dest.Folder target) it.image l t w two in
+      let got = first_gate tree folder plan conf policy from whole alone k l (Ok it) one i (front k.lanes l.lanes t.lanes c before behind) in
+      let s = got.1.0.0 in
+      let is : IsTaken tree folder policy it s = got.1.0.1 in
+      let begins = begins_still folder tree k l i (gate_kept plan conf policy k l (Ok it) one) (got.2 got.1.1) in
+      comes_as of.is_memory w (placed_at it.image) (copied policy)
+      (placing_comes it.image l t w (subst (λ f. placing f (dest.Folder target) it.image l t w) is.from two) begins (back k.lanes l.lanes t.lanes c before behind))
+      (placed_is it s policy is ∙ ap (λ u. and_then u (λ (v : Submission). placed_in tree folder taken v)) (sym is.admitted))
+  behind_gate plan conf policy from whole alone m b r (stops k t e one) i c =
+      let got = first_gate tree folder plan conf policy from whole alone k t (Err e) one i c in
+      refused_as of.is_memory e (admitted_in tree folder policy) (λ u. and_then u (λ (v : Submission). placed_in tree folder taken v)) (λ d. refl) got.1
+
+  image_comes : (plan : CopyPlan) (conf : Settings) (policy : PolicyLists) → plan.source ≡ Dir folder → plan.short ≡ None → plan.verifier ≡ None → plan.dest ≡ Dir target
+      → (x y : Seen) (r : Result Copied Refusal) → image_end plan conf policy x y r → Begins folder tree x → Calm x y → Comes of.is_memory r (copy_in tree folder taken policy)
   unfolding image_end copy_in
-  image_comes plan conf policy from whole to x y r end begins calm =
-      comes_then of.is_memory (given (dest_at plan.dest)) (λ d. on_first lane_course (admission plan conf policy) >>= (λ it. placing it.from d it.image)) (Ok (dest.Folder target)) (λ u. and_then u (λ (d : Dest). copied policy))
+  image_comes plan conf policy from whole alone to x y r end begins calm =
+      comes_then of.is_memory (given (dest_at plan.dest)) (λ d. at_gate (admission plan conf policy) >>= (λ it. placing it.from d it.image)) (Ok (dest.Folder target)) (λ u. and_then u (λ (d : Dest). copied policy))
       (Begins folder tree) (Begins folder tree) (λ e. refl) (goes_given (dest_at plan.dest))
-      (λ d. goes_then (on_first lane_course (admission plan conf policy)) (λ it. placing it.from d it.image) (goes_on (admission plan conf policy)) (λ it. goes_placing it.from d it.image))
+      (λ d. goes_then (at_gate (admission plan conf policy)) (λ it. placing it.from d it.image) (goes_gate plan conf policy) (λ it. goes_placing it.from d it.image))
       (λ a m s one i c. comes_given of.is_memory (dest_at plan.dest) (Ok (dest.Folder target)) (ap dest_at to) a m s one)
       (λ a m v one i. given_same (dest_at plan.dest) (Begins folder tree) a m (Ok v) one i)
-      (λ m b d s is two i c. rest m b s (subst (λ (v : Dest). (on_first lane_course (admission plan conf policy) >>= (λ it. placing it.from v it.image)) m b s) (ok_same {E = Refusal} d (dest.Folder target) is) two) i c)
+      (λ m b d s is two i c. behind_gate plan conf policy from whole alone m b s (subst (λ (v : Dest). (at_gate (admission plan conf policy) >>= (λ it. placing it.from v it.image)) m b s) (ok_same {E = Refusal} d (dest.Folder target) is) two) i c)
       x y r end begins calm
-    where
-      equals : Equals tree (admission plan conf policy) (take_it folder (admitted_in tree folder policy))
-      equals = admission_equals tree folder plan conf policy from whole
-
-      rest : (m b : Seen) (s : Result Copied Refusal) → (on_first lane_course (admission plan conf policy) >>= (λ it. placing it.from (dest.Folder target) it.image)) m b s → Begins folder tree m → Calm m b → Comes of.is_memory s (copied policy)
-      rest m b s end i c =
-          comes_as of.is_memory s (and_then (take_it folder (admitted_in tree folder policy)) (λ (it : Taken). placed_in tree folder taken it.image)) (copied policy)
-          (comes_then of.is_memory (on_first lane_course (admission plan conf policy)) (λ it. placing it.from (dest.Folder target) it.image) (take_it folder (admitted_in tree folder policy)) (λ u. and_then u (λ (it : Taken). placed_in tree folder taken it.image))
-          (Begins folder tree) (Begins folder tree) (λ e. refl) (goes_on (admission plan conf policy)) (λ it. goes_placing it.from (dest.Folder target) it.image)
-          (λ k l v one i c. first_comes of.is_memory lane_course (admission plan conf policy) (take_it folder (admitted_in tree folder policy)) (lane_comes (admission plan conf policy) (take_it folder (admitted_in tree folder policy))) k l v (some_lane tree k.lanes i.first) c one
-          (λ a z w at t. (equals a z w t (first_tells tree k.lanes a i.first at)).0))
-          (λ k l v one i. begins_still folder tree k l i (first_kept (admission plan conf policy) k l (Ok v) one) (first_still of.is_memory lane_course (admission plan conf policy) tree (take_it folder (admitted_in tree folder policy)) equals (lane_value (admission plan conf policy)) k l v i.first one))
-          (λ k l it v is two i c. placing_comes it.image k l v (subst (λ f. placing f (dest.Folder target) it.image k l v) (from_taken folder (admitted_in tree folder policy) it is) two) i c)
-          m b s end i c)
-          (flat (admitted_in tree folder policy) (λ it. Ok (taken_of (source.Folder folder) it)) (λ (it : Taken). placed_in tree folder taken it.image))
 
 -- ---- the command
 
@@ -526,11 +657,11 @@ policy_equals tree home cwd (Named path) a b r end tells = (told tree (λ t. r �
 policy_equals tree home cwd Usual a b r end tells = (told tree (λ t. r ≡ policy_file t (usual_path t home cwd policy_name)) a.files.tree tells end.0, end.1.files ∙ tells)
 
 -- where no registry is named, no configuration is read
-unread_equals : (tree : Tree) (home cwd : List ℕ) (choice : ConfChoice) → choice ≡ chosen.Unread → Equals tree (conf_end home cwd choice) (Ok no_conf)
+unread_equals : (tree : Tree) (home cwd : List ℕ) (choice : ConfChoice) → choice ≡ conf_of.Unread → Equals tree (conf_end home cwd choice) (Ok no_conf)
 unfolding conf_end
 unread_equals tree home cwd choice is = subst (λ v. Equals tree (conf_end home cwd v) (Ok no_conf)) (sym is) (λ a b r end tells. (end.0, end.1.files ∙ tells))
 
-rules_equal : (tree : Tree) (home cwd : List ℕ) (task : CopyTask) → task.conf ≡ chosen.Unread → Equals tree (rules_end home cwd task) (and_then (policy_at tree home cwd task.policy) (λ policy. Ok (rules_of policy no_conf)))
+rules_equal : (tree : Tree) (home cwd : List ℕ) (task : CopyTask) → task.conf ≡ conf_of.Unread → Equals tree (rules_end home cwd task) (and_then (policy_at tree home cwd task.policy) (λ policy. Ok (rules_of policy no_conf)))
 unfolding rules_end
 rules_equal tree home cwd task unread =
     equal_then tree (policy_end home cwd task.policy) (λ policy. conf_end home cwd task.conf >>= (λ c. both policy c)) (policy_at tree home cwd task.policy) (λ u. and_then u (λ policy. Ok (rules_of policy no_conf))) (λ e. refl)
@@ -554,7 +685,7 @@ seen_comes {A} step w x y (Err e) end f = by (is_memory e) refl end.ends
     by true is shown = inl is
     by false is one = f one
 
-module _ (tree : Tree) (home cwd : List ℕ) (task : CopyTask) (folder target : List ℕ) (apart : folder ≢ target) (from : task.plan.source ≡ Dir folder) (whole : task.plan.short ≡ None) (to : task.plan.dest ≡ Dir target) (unread : task.conf ≡ chosen.Unread) (taken : Result ⊤ Refusal) (judges : Judges tree target taken) where
+module _ (tree : Tree) (home cwd : List ℕ) (task : CopyTask) (folder target : List ℕ) (apart : folder ≢ target) (from : task.plan.source ≡ Dir folder) (whole : task.plan.short ≡ None) (alone : task.plan.verifier ≡ None) (to : task.plan.dest ≡ Dir target) (unread : task.conf ≡ conf_of.Unread) (taken : Result ⊤ Refusal) (judges : Judges tree target taken) where
   abbrev by_policy : Result Copied CommandRefusal
   by_policy = and_then (policy_at tree home cwd task.policy) (λ policy. or_image (copy_in tree folder taken policy))
 
@@ -572,7 +703,7 @@ module _ (tree : Tree) (home cwd : List ℕ) (task : CopyTask) (folder target : 
       (λ a m s one i c. first_comes is_memory app.lane_course (rules_end home cwd task) rules_at (app_comes (rules_end home cwd task) rules_at) a m s (some_lane tree a.lanes i.first) c one
       (λ k l v at t. (rules_equal tree home cwd task unread k l v t (first_tells tree a.lanes k i.first at)).0))
       (λ a m v one i. begins_still folder tree a m i (app_kept (rules_end home cwd task) a m (Ok v) one) (first_still is_memory app.lane_course (rules_end home cwd task) tree rules_at (rules_equal tree home cwd task unread) (app_value (rules_end home cwd task)) a m v i.first one))
-      (λ m b rules s is two i c. of_image_comes (image_end task.plan rules.conf rules.policy) (copy_in tree folder taken rules.policy) m b (λ v end. image_comes tree folder target apart taken judges task.plan rules.conf rules.policy from whole to m b v end i c) s two)
+      (λ m b rules s is two i c. of_image_comes (image_end task.plan rules.conf rules.policy) (copy_in tree folder taken rules.policy) m b (λ v end. image_comes tree folder target apart taken judges task.plan rules.conf rules.policy from whole alone to m b v end i c) s two)
       x y r end begins calm
 
   task_comes : (x y : Seen) (r : Result Copied CommandRefusal) → image_of_task home cwd task x y r → Begins folder tree x → Calm x y → Comes is_memory r by_policy
@@ -597,6 +728,13 @@ module _ (tree : Tree) (home cwd : List ℕ) (task : CopyTask) (folder target : 
       by (Image (image.BadReference text fault)) is blames = absurd is
       by (Image (image.ShortName text count)) is blames = absurd is
       by (Image (image.NoSource attempts)) is blames = absurd is
+      by (Image (image.TlsRequired host)) is blames = absurd is
+      by (Image (image.Garbled status first)) is blames = absurd is
+      by (Image (image.BadAnswer step first)) is blames = absurd is
+      by (Image (image.LookasideRefused number status)) is blames = absurd is
+      by (Image (image.Encoded step)) is blames = absurd is
+      by (Image (image.TooManyRedirects step)) is blames = absurd is
+      by (Image (image.Helper count)) is blames = absurd is
       by (Words p k) is blames = absurd is
       by (Reference x f) is blames = absurd is
       by (SamePlace p) is blames = absurd is
@@ -659,6 +797,13 @@ memory_four (Image (image.Blocked n)) memory = let no : false ≡ true = memory 
 memory_four (Image (image.BadReference text fault)) memory = let no : false ≡ true = memory in cc
 memory_four (Image (image.ShortName text count)) memory = let no : false ≡ true = memory in cc
 memory_four (Image (image.NoSource attempts)) memory = let no : false ≡ true = memory in cc
+memory_four (Image (image.TlsRequired host)) memory = let no : false ≡ true = memory in cc
+memory_four (Image (image.Garbled status first)) memory = let no : false ≡ true = memory in cc
+memory_four (Image (image.BadAnswer step first)) memory = let no : false ≡ true = memory in cc
+memory_four (Image (image.LookasideRefused number status)) memory = let no : false ≡ true = memory in cc
+memory_four (Image (image.Encoded step)) memory = let no : false ≡ true = memory in cc
+memory_four (Image (image.TooManyRedirects step)) memory = let no : false ≡ true = memory in cc
+memory_four (Image (image.Helper count)) memory = let no : false ≡ true = memory in cc
 memory_four (Words p k) memory = let no : false ≡ true = memory in cc
 memory_four (Reference t f) memory = let no : false ≡ true = memory in cc
 memory_four (SamePlace p) memory = let no : false ≡ true = memory in cc
@@ -686,7 +831,7 @@ end_comes words home cwd before after (Err e) w end f = by (is_memory e) refl en
     by false is one = f one
 
 -- a copy of a folder reads no configuration
-unread_copy : (words : List (List ℕ)) (cwd : List ℕ) (task : CopyTask) (folder : List ℕ) → task_of words cwd ≡ Ok (Copy task) → task.plan.source ≡ Dir folder → task.conf ≡ chosen.Unread
+unread_copy : (words : List (List ℕ)) (cwd : List ℕ) (task : CopyTask) (folder : List ℕ) → task_of words cwd ≡ Ok (Copy task) → task.plan.source ≡ Dir folder → task.conf ≡ conf_of.Unread
 unread_copy words cwd task folder named from = let asks = asks_copy words cwd task named in asks.conf ∙ ap (conf_choice_of cwd asks.common) from
 
 -- nor is a folder a short name
@@ -702,7 +847,7 @@ whole_copy words cwd task folder named from =
 pub ends_by_tree : (words : List (List ℕ)) (home cwd : List ℕ) (task : CopyTask) (folder target : List ℕ) (tree : Tree) → EndsByTree words home cwd task folder target tree
 ends_by_tree words home cwd task folder target tree taken before after err_before err_after code copy judges calm end =
     by (end_comes words home cwd before after end.answer (answer_in tree home cwd task folder taken) end.is.ends
-    (λ one. ending_comes tree home cwd task folder target copy.apart copy.from (whole_copy words cwd task folder copy.named copy.from) copy.to (unread_copy words cwd task folder copy.named copy.from) taken judges words copy.named before after end.answer one (record { first = copy.first; same = copy.same }) calm))
+    (λ one. ending_comes tree home cwd task folder target copy.apart copy.from (whole_copy words cwd task folder copy.named copy.from) copy.alone copy.to (unread_copy words cwd task folder copy.named copy.from) taken judges words copy.named before after end.answer one (record { first = copy.first; same = copy.same }) calm))
   where
     by : Comes is_memory end.answer (answer_in tree home cwd task folder taken) → (code ≡ 4) ⊎ (end.answer ≡ answer_in tree home cwd task folder taken)
     by (inl memory) = inl (end.status ∙ status_four end.answer memory)
@@ -710,12 +855,12 @@ ends_by_tree words home cwd task folder target tree taken before after err_befor
 
 -- ---- a good copy
 
-good_answer : (home cwd : List ℕ) (task : CopyTask) (folder target : List ℕ) (tree : Tree) → (good : IsGood home cwd task folder target tree) → answer_in tree home cwd task folder (Ok tt) ≡ Ok (copy_done task.quiet (copied_of good.image))
+good_answer : (home cwd : List ℕ) (task : CopyTask) (folder target : List ℕ) (tree : Tree) → (good : IsGood home cwd task folder target tree) → answer_in tree home cwd task folder (Ok tt) ≡ Ok (copy_done task.quiet (copied_in good.submitted))
 unfolding answer_in copy_in placed_in
 good_answer home cwd task folder target tree good =
-    ap (λ u. and_then u (λ policy. and_then (or_image (and_then (admitted_in tree folder policy) (λ it. and_then (first_fault tree folder it.jobs) (λ _. Ok (copied_of it))))) (λ copied. Ok (copy_done task.quiet copied)))) good.counts
-    ∙ ap (λ u. and_then (or_image (and_then u (λ it. and_then (first_fault tree folder it.jobs) (λ _. Ok (copied_of it))))) (λ copied. Ok (copy_done task.quiet copied))) good.admitted
-    ∙ ap (λ u. and_then (or_image (and_then u (λ _. Ok (copied_of good.image)))) (λ copied. Ok (copy_done task.quiet copied))) good.blobs
+    ap (λ u. and_then u (λ policy. and_then (or_image (and_then (admitted_in tree folder policy) (λ s. and_then (first_fault tree folder (blobs s.image)) (λ _. Ok (copied_in s))))) (λ copied. Ok (copy_done task.quiet copied)))) good.counts
+    ∙ ap (λ u. and_then (or_image (and_then u (λ (s : Submission). and_then (first_fault tree folder (blobs s.image)) (λ _. Ok (copied_in s))))) (λ copied. Ok (copy_done task.quiet copied))) good.admitted
+    ∙ ap (λ u. and_then (or_image (and_then u (λ _. Ok (copied_in good.submitted)))) (λ copied. Ok (copy_done task.quiet copied))) good.whole
 
 pub good_ends : (words : List (List ℕ)) (home cwd : List ℕ) (task : CopyTask) (folder target : List ℕ) (tree : Tree) → GoodEnds words home cwd task folder target tree
 good_ends words home cwd task folder target tree before after err_before err_after code copy good calm end =

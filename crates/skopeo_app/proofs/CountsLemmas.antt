@@ -3,6 +3,7 @@ use Rattle.std.proofs.Common.{◌≡◌, ◌∙◌, ◌<◌, Bool, true, false, 
 use Rattle.skopeo_outside.specs.Tree.{Tree, file_at}
 use Rattle.skopeo_outside.specs.LaneTold.{LaneTold, IsLater}
 use Rattle.skopeo_outside.specs.LaneLaws.{later_same}
+use Rattle.skopeo_outside.specs.Helper.{Runs}
 use Rattle.skopeo_outside.specs.Seen.{AreLanes, seen}
 use Rattle.skopeo_outside.specs.Steps.{Then, goes, stops, ◌>>=◌, given, Ends}
 use Rattle.skopeo_outside.proofs.FirstLemmas.{first_set, set_each, set_keeps}
@@ -160,14 +161,15 @@ pub first_lanes : (old : List LaneTold) (x y : LaneTold) → slice_index_or old 
 first_lanes old x y is quiet lanes = lanes_later old (slice_set old 0 y) (set_each (λ place a b. IsLater a b) (λ place a. later_same a) old x y is (quiet_later x y quiet)) lanes
 
 -- what was read on the first lane, over all lanes
-pub first_reads : (home cwd : List ℕ) (task : CopyTask) (old : List LaneTold) (x y : LaneTold) (r : Result Rules CommandRefusal) → 0 < length old → slice_index_or old 0 x ≡ x
-    → ReadsAs (rules_end home cwd task) x y r → ReadsFirst home cwd task (seen old None 0) (seen (slice_set old 0 y) None 0) r
+pub first_reads : (home cwd : List ℕ) (task : CopyTask) (old : List LaneTold) (x y : LaneTold) (runs : Runs) (faults : ℕ) (r : Result Rules CommandRefusal) → 0 < length old → slice_index_or old 0 x ≡ x
+    → ReadsAs (rules_end home cwd task) x y r → ReadsFirst home cwd task (seen old runs faults) (seen (slice_set old 0 y) runs faults) r
 unfolding lane_course
-first_reads home cwd task old x y r some is reads = record {
-  ends = first_set is_memory lane_course (λ a b later. later) (rules_end home cwd task) old x y (record { runs = None; faults = 0 }) r some is reads.ends;
+first_reads home cwd task old x y runs faults r some is reads = record {
+  ends = first_set is_memory lane_course (λ a b later. later) (rules_end home cwd task) old x y (record { runs = runs; faults = faults }) r some is reads.ends;
   counts = by r reads.ends;
   quiet = set_each (λ place a b. IsQuiet a b) (λ place a. quiet_same a) old x y is reads.quiet;
   rest = set_keeps old y;
+  helper = refl;
   other = reads.other;
 }
   where

@@ -1,5 +1,5 @@
 -- What holds between two states holds from a state on before which files were read alone.
-use Rattle.std.proofs.Common.{◌≡◌, ◌∙◌, ◌⊎◌, ℕ, List, [], ◌∷◌, Bool, Option, Some, None, Result, Ok, Err, IfSome, length, inl, inr, refl, sym, subst, arith}
+use Rattle.std.proofs.Common.{◌≡◌, ◌∙◌, ◌⊎◌, ℕ, List, [], ◌∷◌, Bool, Option, Some, None, Result, Ok, Err, IfSome, length, inl, inr, refl, sym, ap, subst, arith}
 use Rattle.skopeo_outside.specs.Outside.{Told}
 use Rattle.skopeo_outside.specs.LaneTold.{LaneTold}
 use Rattle.skopeo_outside.specs.LaneLaws.{later_then, each_then, lane_at}
@@ -24,6 +24,7 @@ use Rattle.transports.specs.Within.{Within}
 use Rattle.transports.specs.Tried.{AreTried}
 use Rattle.transports.specs.Names.{AreNamesTried}
 use Rattle.transports.specs.declared.found.FoundImage.{FoundImage}
+use Rattle.transports.specs.Stores.{StoreAt, store_of}
 use Rattle.transports.specs.Given.{ManifestEnds, SignaturesEnd, BlobEnds}
 use Rattle.transports.specs.Has.{HasBlob, IsReported, IsUntouched, OnlyAtDest, MayTake, RemovesInOrder}
 use Rattle.transports.specs.Fair.{IsFairOn}
@@ -33,7 +34,7 @@ use Rattle.transports.specs.StepEnds.{IsDone}
 use Rattle.transports.proofs.WithinLemmas.{within_earlier}
 use Rattle.transports.proofs.HasLemmas.{has_earlier, reported_earlier, untouched_then}
 use Rattle.admission.specs.Admission.{Admission}
-use Rattle.copy_engine.specs.Headline.{AnsweredAt, Answered, IsOfPlan, IsCopied, ImageHeadline}
+use Rattle.copy_engine.specs.Headline.{AnsweredAt, Answered, IsJudgedIn, IsOfPlan, IsCopied, ImageHeadline}
 use Rattle.copy_engine.specs.Stops.{IsTouched, Leaves, IsGivenUp}
 use Rattle.copy_engine.specs.Delivered.{Delivers}
 use Rattle.skopeo_app.specs.Reads.{IsQuiet}
@@ -55,10 +56,11 @@ manifest_earlier (source.Registry reference) None (Ok fetched) a b c q h = withi
 manifest_earlier (source.Registry reference) None (Err e) a b c q h = absurd h
 manifest_earlier (source.Registry reference) (Some digest) r a b c q h = absurd h
 
-signatures_earlier : (s : Source) (part : Option (List ℕ)) (r : Result (List (List ℕ)) Refusal) (a b c : LaneTold) → IsQuiet a b → SignaturesEnd s part b c r → SignaturesEnd s part a c r
+signatures_earlier : (s : Source) (store : Option StoreAt) (part : Option (List ℕ)) (r : Result (List (List ℕ)) Refusal) (a b c : LaneTold) → IsQuiet a b → SignaturesEnd s store part b c r → SignaturesEnd s store part a c r
 unfolding SignaturesEnd
-signatures_earlier (source.Folder path) part r a b c q h = some_told _ a.files.tree b.files.tree q.tree h
-signatures_earlier (source.Registry reference) part r a b c q h = (h.0, later_then a b c (quiet_later a b q) h.1)
+signatures_earlier (source.Folder path) store part r a b c q h = some_told _ a.files.tree b.files.tree q.tree h
+signatures_earlier (source.Registry reference) None part r a b c q h = (h.0, later_then a b c (quiet_later a b q) h.1)
+signatures_earlier (source.Registry reference) (Some store) part r a b c q h = within_earlier _ a b c (quiet_later a b q) h
 
 blob_earlier : (s : Source) (job : Job) (r : Result (List ℕ) Cause) (a b c : LaneTold) → IsQuiet a b → BlobEnds s job b c r → BlobEnds s job a c r
 unfolding BlobEnds
@@ -163,7 +165,16 @@ module _ (plan : CopyPlan) (x y z : Seen) (quiet : AreQuiet x.lanes y.lanes) whe
     order = λ to goes. first_earlier (RemovesInOrder to) (order_earlier to) x.lanes y.lanes z.lanes quiet (g.order to goes);
   }
 
-module _ (policy : PolicyLists) (conf : Settings) (plan : CopyPlan) (x y z : Seen) (quiet : AreQuiet x.lanes y.lanes) where
+module _ (policy : PolicyLists) (conf : Settings) (plan : CopyPlan) (x y z : Seen) (quiet : AreQuiet x.lanes y.lanes) (rests : y.helper ≡ x.helper) where
+  judged_earlier : (image : Admission) → IsJudgedIn plan y z image → IsJudgedIn plan x z image
+  judged_earlier image j = record {
+    program = j.program;
+    cwd = j.cwd;
+    files = first_earlier (λ a b. image.files ≡ a.files.tree) (λ a b c q e. e ∙ q.tree) x.lanes y.lanes z.lanes quiet j.files;
+    before = j.before ∙ ap (λ h. h.runs) rests;
+    after = j.after;
+  }
+
   of_plan_earlier : (from : Source) (image : Admission) → IsOfPlan policy conf plan y z from image → IsOfPlan policy conf plan x z from image
   of_plan_earlier from image of = record {
     under = of.under;
@@ -171,6 +182,8 @@ module _ (policy : PolicyLists) (conf : Settings) (plan : CopyPlan) (x y z : See
     fetched = of.fetched;
     gave = first_earlier (λ a b. ManifestEnds from None a b (Ok of.fetched)) (manifest_earlier from None (Ok of.fetched)) x.lanes y.lanes z.lanes quiet of.gave;
     same = of.same;
+    signed = first_earlier (λ a b. SignaturesEnd from (store_of plan image.place image.manifest) None a b (Ok image.signatures)) (signatures_earlier from (store_of plan image.place image.manifest) None (Ok image.signatures)) x.lanes y.lanes z.lanes quiet of.signed;
+    judged = judged_earlier image of.judged;
     admitted = of.admitted;
   }
 
@@ -213,7 +226,6 @@ module _ (policy : PolicyLists) (conf : Settings) (plan : CopyPlan) (x y z : See
     from = d.from;
     image = d.image;
     of_plan = of_plan_earlier d.from d.image d.of_plan;
-    signatures = first_earlier (λ a b. SignaturesEnd d.from None a b (Ok d.image.signatures)) (signatures_earlier d.from None (Ok d.image.signatures)) x.lanes y.lanes z.lanes quiet d.signatures;
     to = d.to;
     goes_to = d.goes_to;
     bytes = d.bytes;

@@ -2,6 +2,7 @@ pub mod TaskLemmas
 pub mod AskedLaw
 pub mod RowLemmas
 pub mod AttemptLemmas
+pub mod SignatureLemmas
 pub mod ReadLemmas
 pub mod PolicyLemmas
 pub mod ConfLemmas
@@ -15,4 +16,5 @@ pub mod RunLemmas
 pub mod CommandLemmas
 pub mod NumberLemmas
 pub mod ByTreeLemmas
+pub mod JudgedLemmas
 pub mod CompleteLemmas

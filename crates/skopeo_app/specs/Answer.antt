@@ -1,6 +1,7 @@
 -- The end of the command: its answer, its status, and its lines.
-use Rattle.std.specs.Prelude.{◌≡◌, List, ℕ, true, None, Result, Err, IfErr, IfOk}
+use Rattle.std.specs.Prelude.{◌≡◌, List, ℕ, true, Result, Err, IfErr, IfOk}
 use Rattle.skopeo_outside.specs.LaneTold.{LaneTold}
+use Rattle.skopeo_outside.specs.Helper.{Runs}
 use Rattle.skopeo_outside.specs.Seen.{seen}
 use Rattle.skopeo_outside.specs.Steps.{Ends}
 use Rattle.skopeo_app.specs.declared.refusal.CommandRefusal.{CommandRefusal}
@@ -13,9 +14,9 @@ use Rattle.skopeo_app.specs.Lines.{status_of, err_lines}
 use Rattle.skopeo_app.specs.Ending.{ending}
 use Rattle.skopeo_app.specs.Stops.{AreUntouched, StopsAt, StandsAt}
 
--- what lanes and the output tell; the helper rests
-abbrev pub told_by : List LaneTold → SinkTold → CommandTold
-told_by lanes out = record { seen = seen lanes None 0; out = out }
+-- what lanes, the helper and the output tell
+abbrev pub told_by : List LaneTold → Runs → ℕ → SinkTold → CommandTold
+told_by lanes runs faults out = record { seen = seen lanes runs faults; out = out }
 
 -- a refusal of the words comes only where the words are refused so
 abbrev pub IsOfWords : {A : Type 0} → Result A CommandRefusal → List (List ℕ) → List ℕ → Type 0

@@ -1,6 +1,6 @@
--- Completeness: a copy between two folders ends as one tree says, where each lane's files start with the same blobs and no
--- object outside fails.
-use Rattle.std.specs.Prelude.{◌≡◌, ◌≢◌, ◌⊎◌, List, ℕ, Some, Result, Ok, Err, ⊤, slice_get}
+-- Completeness: a copy between two folders without a program that judges signatures ends as one tree says, where each
+-- lane's files start with the same blobs and no object outside fails.
+use Rattle.std.specs.Prelude.{◌≡◌, ◌≢◌, ◌⊎◌, List, ℕ, Some, None, Result, Ok, Err, ⊤, slice_get}
 use Rattle.skopeo_outside.specs.Tree.{Tree, file_at}
 use Rattle.skopeo_outside.specs.Outside.{Rose}
 use Rattle.skopeo_outside.specs.LaneTold.{LaneTold}
@@ -11,7 +11,8 @@ use Rattle.layouts.specs.Destination.{MayReplace}
 use Rattle.policy_file.specs.PolicyLists.{PolicyLists}
 use Rattle.transports.specs.declared.refusal.Refusal.{Refusal}
 use Rattle.transports.specs.declared.refusal.Refusal.TheVariants.{NotAnImageDir}
-use Rattle.admission.specs.Admission.{Admission}
+use Rattle.manifest_convert.specs.Blobs.{blobs}
+use Rattle.admission.specs.Judged.{Submission}
 use Rattle.copy_jobs.specs.Secured.{first_fault}
 use Rattle.skopeo_app.specs.declared.task.CopyTask.{CopyTask}
 use Rattle.skopeo_app.specs.declared.task.Task.TheVariants.{Copy}
@@ -32,12 +33,14 @@ pub record StartsWith (folder : List ℕ) (tree : Tree) (lane : LaneTold) : Type
 abbrev pub AllStart : List ℕ → Tree → Seen → Type 0
 AllStart folder tree old = (place : ℕ) (lane : LaneTold) → slice_get old.lanes place ≡ Some lane → StartsWith folder tree lane
 
--- the words name a copy from one folder to another; the first lane tells this tree, and all start with its blobs
+-- the words name a copy from one folder to another, and no program that judges signatures; the first lane tells this tree,
+-- and all start with its blobs
 pub record IsFolderCopy (words : List (List ℕ)) (cwd : List ℕ) (task : CopyTask) (source dest : List ℕ) (tree : Tree) (old : Seen) : Type 0 where
   pub named : task_of words cwd ≡ Ok (Copy task)
   pub from : task.plan.source ≡ Dir source
   pub to : task.plan.dest ≡ Dir dest
   pub apart : source ≢ dest
+  pub alone : task.plan.verifier ≡ None
   pub first : first_tree old.lanes ≡ Some tree
   pub same : AllStart source tree old
 
@@ -70,9 +73,9 @@ EndsByTree words home cwd task source dest tree =
 pub record IsGood (home cwd : List ℕ) (task : CopyTask) (source dest : List ℕ) (tree : Tree) : Type 0 where
   pub policy : PolicyLists
   pub counts : policy_at tree home cwd task.policy ≡ Ok policy
-  pub image : Admission
-  pub admitted : admitted_in tree source policy ≡ Ok image
-  pub blobs : first_fault tree source image.jobs ≡ Ok tt
+  pub submitted : Submission
+  pub admitted : admitted_in tree source policy ≡ Ok submitted
+  pub whole : first_fault tree source (blobs submitted.image) ≡ Ok tt
   pub may : MayReplace tree dest
 
 -- such a copy ends with status 0, or memory was wanting

@@ -6,6 +6,7 @@ use Rattle.skopeo_outside.specs.Steps.{Ends}
 use Rattle.transports.specs.declared.plan.CopyPlan.{CopyPlan}
 use Rattle.transports.specs.declared.report.Copied.{Copied}
 use Rattle.transports.specs.Writes.{Spot, IsWrite}
+use Rattle.admission.specs.Judged.{AsksOnly}
 use Rattle.copy_engine.specs.Headline.{IsCopied, ImageHeadline}
 use Rattle.copy_engine.specs.Stops as engine
 use Rattle.copy_engine.specs.Delivered.{Delivers}
@@ -28,6 +29,7 @@ pub record CopiesImage (rules : Rules) (plan : CopyPlan) (old new : Seen) (resul
   pub gives_up : engine.GivesUp result plan old new
   pub delivered : IfOk result (λ copied. Delivers rules.policy rules.conf plan copied old new)
   pub rest : KeepsFrom plan.lanes old.lanes new.lanes
+  pub asks : AsksOnly plan old.helper.runs new.helper.runs
   pub untouched : IfErr result (λ e. is_ahead e ≡ true → AreUntouched old new)
   pub other : IfErr result (λ e. is_of_copy e ≡ true)
 
@@ -42,11 +44,12 @@ abbrev pub TaskLeaves : List ℕ → List ℕ → CopyTask → Seen → Seen →
 TaskLeaves home cwd task old new =
     AreUntouched old new ⊎ ((rules : Rules) × RulesCount (first_tree old.lanes) home cwd task rules × engine.IsTouched rules.policy rules.conf task.plan old new)
 
--- what holds of the lanes behind a task's copy
+-- what holds of the lanes and the helper behind a task's copy
 pub record IsTaskRun (home cwd : List ℕ) (task : CopyTask) (old new : Seen) : Type 0 where
   pub headline : TaskHeadline home cwd task old new
   pub leaves : TaskLeaves home cwd task old new
   pub rest : KeepsFrom task.plan.lanes old.lanes new.lanes
+  pub asks : AsksOnly task.plan old.helper.runs new.helper.runs
 
 -- the image of a task was copied, or why not
 pub record CopiesTask (home cwd : List ℕ) (task : CopyTask) (old new : Seen) (result : Result Copied CommandRefusal) : Type 0 where

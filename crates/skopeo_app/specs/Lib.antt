@@ -4,6 +4,7 @@ pub mod Courses
 pub mod Plan
 pub mod Task
 pub mod Asked
+pub mod Asks
 pub mod Numbered
 pub mod Usual
 pub mod Policy

@@ -1,10 +1,13 @@
 -- The lines of rows, the texts on both outputs, and the status.
 use Rattle.std.specs.Prelude.{◌+◌, ◌++◌, ◌==◌, ◌∷◌, List, [], ℕ, nat_le, if◌then◌else◌, codes, Result, Ok, Err}
-use Rattle.std.specs.Fmt.{decimal}
+use Rattle.std.specs.Fmt.{decimal, signed_decimal}
 use Rattle.hex.specs.Hex.{encode_lower}
 use Rattle.serde_json.specs.Data.{string}
 use Rattle.serde_json.specs.Written.{compact_text}
 use Rattle.image_ref.specs.Digest.{digest_text}
+use Rattle.policy_gate.specs.declared.fault.Reason.{Reason}
+use Rattle.policy_gate.specs.declared.fault.Why.{Why}
+use Rattle.policy_gate.specs.declared.fault.Why.TheVariants.{Signatures}
 use Rattle.transports.specs.declared.attempt.Attempt.{Attempt}
 use Rattle.transports.specs.declared.refusal.Refusal.{Refusal}
 use Rattle.transports.specs.declared.refusal.Refusal.TheVariants as image
@@ -12,7 +15,8 @@ use Rattle.skopeo_app.specs.declared.run.Done.{Done}
 use Rattle.skopeo_app.specs.declared.rows.Printed.{Printed}
 use Rattle.skopeo_app.specs.declared.refusal.CommandRefusal.{CommandRefusal}
 use Rattle.skopeo_app.specs.declared.refusal.CommandRefusal.TheVariants as refusal
-use Rattle.skopeo_app.specs.Rows.{Field, as_number, as_word, as_text, as_digest, as_bytes, Row, attempt_row, row_of}
+use Rattle.skopeo_app.specs.Words.{reason_word, reason_text}
+use Rattle.skopeo_app.specs.Rows.{Field, as_number, as_signed, as_word, as_text, as_digest, as_bytes, Row, attempt_row, row_of}
 
 -- a text as a JSON text (RFC 8259, section 7)
 unfoldable pub json_text : List ℕ → List ℕ
@@ -21,6 +25,7 @@ json_text text = compact_text (string text)
 -- a field as it is printed
 abbrev pub field_text : Field → List ℕ
 field_text (as_number n) = decimal n
+field_text (as_signed z) = signed_decimal z
 field_text (as_word word) = word
 field_text (as_text text) = json_text text
 field_text (as_digest digest) = digest_text digest
@@ -64,9 +69,31 @@ abbrev pub attempt_lines : ℕ → List Attempt → List ℕ
 attempt_lines number [] = []
 attempt_lines number (tried ∷ rest) = attempt_line number tried ++ attempt_lines (number + 1) rest
 
--- the line of a refusal, and one for each source that was asked in vain
+-- the signatures of which none was accepted: why not, one by one
+abbrev pub reasons_by : Why → List Reason
+reasons_by (Signatures reasons) = reasons
+reasons_by _ = []
+
+abbrev pub reasons_in : Refusal → List Reason
+reasons_in (image.Rejected scope place why) = reasons_by why
+reasons_in _ = []
+
+abbrev pub reasons_of : CommandRefusal → List Reason
+reasons_of (refusal.Image e) = reasons_in e
+reasons_of _ = []
+
+-- the line of one: its number, why it was not accepted, and what was said or signed
+unfoldable pub signature_line : ℕ → Reason → List ℕ
+signature_line number why = codes "signature " ++ (decimal number ++ (codes " " ++ (reason_word why ++ (codes " " ++ (json_text (reason_text why) ++ codes "\n")))))
+
+-- the lines of all, of which the first has this number
+abbrev pub signature_lines : ℕ → List Reason → List ℕ
+signature_lines number [] = []
+signature_lines number (why ∷ rest) = signature_line number why ++ signature_lines (number + 1) rest
+
+-- the line of a refusal, one for each source that was asked in vain, and one for each signature that was not accepted
 unfoldable pub refusal_line : CommandRefusal → List ℕ
-refusal_line e = codes "skopeo: " ++ (row_text (printed (row_of e)) ++ attempt_lines 1 (attempts_of e))
+refusal_line e = codes "skopeo: " ++ (row_text (printed (row_of e)) ++ (attempt_lines 1 (attempts_of e) ++ signature_lines 1 (reasons_of e)))
 
 -- the status of a row: 2 for words, 4 for want of memory, 3 for an object that failed, and 1 for places, policy, source or a blob
 abbrev pub status_of_number : ℕ → ℕ

@@ -1,13 +1,15 @@
--- The places of a copy, its lanes, and whether its registry may be asked without TLS.
+-- The places of a copy, its lanes, whether its registry may be asked without TLS, and by what its signatures are judged.
 use Rattle.std.specs.Prelude.{◌&&◌, ◌<◌, [], List, ℕ, Bool, true, false, if◌then◌else◌, max, codes, take, drop, Option, Some, None, Result, Ok, Err}
-use Rattle.std.specs.Option.{is_none}
+use Rattle.std.specs.Option.{is_none, option_map}
 use Rattle.std.specs.Str.{bytes_eq}
+use Rattle.image_ref.specs.Path.{cleaned}
 use Rattle.image_ref.specs.PlaceReading.{place_of}
 use Rattle.image_ref.specs.Reading.{pieces_of}
 use Rattle.image_ref.specs.declared.place.Place.{Place}
 use Rattle.image_ref.specs.declared.place.Place.TheVariants as place
 use Rattle.image_ref.specs.declared.fault.PlaceFault.{PlaceFault}
 use Rattle.skopeo_words.specs.declared.command.Common.{Common}
+use Rattle.skopeo_words.specs.declared.command.Passing.{Passing}
 use Rattle.transports.specs.declared.plan.CopyPlan.{CopyPlan}
 use Rattle.transports.specs.Places.{IsBetweenPlaces}
 use Rattle.skopeo_app.specs.declared.refusal.CommandRefusal.{CommandRefusal}
@@ -75,12 +77,29 @@ short_for true (place.Docker reference) text = hostless_in (behind_docker text)
 short_for true (place.Dir path) text = None
 short_for true (place.Oci path tag) text = None
 
+-- the program that judges signatures, where one is named; a relative path counts from the folder
+abbrev pub verifier_for : List ℕ → Passing → Option (List ℕ)
+verifier_for cwd passing = option_map (cleaned cwd) passing.verifier
+
+-- the plan of a copy between two places, with what its options say; paths of keys count from the folder
+abbrev pub plan_between : List ℕ → ℕ → Passing → Option (List ℕ) → Place → Place → CopyPlan
+plan_between cwd lanes passing short from to = record {
+  source = from;
+  short = short;
+  dest = to;
+  lanes = lanes;
+  src_tls = passing.src_tls;
+  lookaside = passing.lookaside;
+  verifier = verifier_for cwd passing;
+  cwd = cwd;
+}
+
 -- the places of a copy: the source is read first
-unfoldable pub plan_of : List ℕ → ℕ → Option Bool → Bool → List ℕ → List ℕ → Result CopyPlan CommandRefusal
-plan_of cwd lanes src_tls short_names source dest = do
+unfoldable pub plan_of : List ℕ → ℕ → Passing → Bool → List ℕ → List ℕ → Result CopyPlan CommandRefusal
+plan_of cwd lanes passing short_names source dest = do
   from ← place_at cwd source
   to ← place_at cwd dest
-  apart (record { source = from; short = short_for short_names from source; dest = to; lanes = lanes; src_tls = src_tls })
+  apart (plan_between cwd lanes passing (short_for short_names from source) from to)
 
 -- what a copy needs: two places that are not one folder, and a lane
 pub record IsSoundPlan (plan : CopyPlan) : Type 0 where

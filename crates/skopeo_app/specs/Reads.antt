@@ -48,4 +48,5 @@ pub record ReadsFirst (home cwd : List ℕ) (task : CopyTask) (old new : Seen) (
   pub counts : IfOk result (RulesCount (first_tree old.lanes) home cwd task)
   pub quiet : OnEach (λ place a b. IsQuiet a b) old.lanes new.lanes
   pub rest : KeepsFrom 1 old.lanes new.lanes
+  pub helper : new.helper ≡ old.helper
   pub other : IfErr result (λ e. is_of_copy e ≡ true)

@@ -1,5 +1,5 @@
 -- Refusals as rows (docs/refusals.md): a number, a name, and fields in order, each under its key.
-use Rattle.std.specs.Prelude.{◌==◌, ◌∷◌, [], List, ℕ, if◌then◌else◌, codes, Option, Some, None, length}
+use Rattle.std.specs.Prelude.{◌==◌, ◌∷◌, [], List, ℕ, ℤ, if◌then◌else◌, codes, Option, Some, None, length}
 use Rattle.skopeo_outside.specs.declared.words.What.{What}
 use Rattle.skopeo_outside.specs.declared.words.What.TheVariants as what
 use Rattle.skopeo_outside.specs.declared.words.Step.{Step}
@@ -12,16 +12,17 @@ use Rattle.copy_workers.specs.declared.cause.Cause.{Cause}
 use Rattle.copy_workers.specs.declared.cause.Cause.TheVariants as cause
 use Rattle.transports.specs.declared.attempt.AttemptCause.{AttemptCause}
 use Rattle.transports.specs.declared.attempt.AttemptCause.TheVariants as attempt
-use Rattle.transports.specs.declared.refusal.Why.{Why}
+use Rattle.policy_gate.specs.declared.fault.Why.{Why}
 use Rattle.transports.specs.declared.refusal.Refusal.{Refusal}
 use Rattle.transports.specs.declared.refusal.Refusal.TheVariants as image
 use Rattle.skopeo_app.specs.declared.refusal.CommandRefusal.{CommandRefusal}
 use Rattle.skopeo_app.specs.declared.refusal.CommandRefusal.TheVariants as refusal
 use Rattle.skopeo_app.specs.Words.{unbuilt_word, part_word, why_word, words_word, policy_word, conf_word, conf_member, place_word, place_offset, what_word, step_word}
 
--- what stands under a key: a number, a word of a fixed list, a text from outside, a digest, or bytes
+-- what stands under a key: a number, a number with a sign, a word of a fixed list, a text from outside, a digest, or bytes
 pub data Field : Type 0 where
   as_number : ℕ → Field
+  as_signed : ℤ → Field
   as_word : List ℕ → Field
   as_text : List ℕ → Field
   as_digest : List ℕ → Field
@@ -119,6 +120,10 @@ folder_row path = row 29 (codes "NotAnImageDir") ((codes "path", as_text path) �
 abbrev pub same_row : List ℕ → Row
 same_row path = row 29 (codes "SamePlace") ((codes "path", as_text path) ∷ [])
 
+-- the program that judges signatures failed by its status, or answered outside its protocol
+abbrev pub garbled_row : ℤ → List ℕ → Row
+garbled_row status first = row 30 (codes "Garbled") ((codes "status", as_signed status) ∷ (codes "bytes", as_bytes first) ∷ [])
+
 -- there is too much of something
 abbrev pub large_row : What → ℕ → Row
 large_row what length = row 31 (codes "TooLarge") ((codes "what", as_word (what_word what)) ∷ (codes "length", as_number length) ∷ [])
@@ -126,6 +131,10 @@ large_row what length = row 31 (codes "TooLarge") ((codes "what", as_word (what_
 -- an answer is outside the grammar
 abbrev pub answer_row : Step → List ℕ → Row
 answer_row at first = row 32 (codes "BadAnswer") ((codes "step", as_word (step_word at)) ∷ (codes "bytes", as_bytes first) ∷ [])
+
+-- a stored signature was answered with another status than it may have
+abbrev pub lookaside_row : ℕ → ℕ → Row
+lookaside_row number status = row 33 (codes "LookasideRefused") ((codes "signature", as_number number) ∷ (codes "status", as_number status) ∷ [])
 
 -- the source refused a step
 abbrev pub source_row : Step → ℕ → Row
@@ -147,12 +156,15 @@ rewrite_row text = row 38 (codes "BadRewrite") ((codes "text", as_text text) ∷
 abbrev pub unbuilt_row : List ℕ → Row
 unbuilt_row word = row 39 (codes "NotBuilt") ((codes "what", as_word word) ∷ [])
 
--- a wire, the files or the output failed
+-- a wire, the files, the program that judges signatures or the output failed
 abbrev pub wire_row : ℕ → Row
 wire_row count = row 40 (codes "Wire") ((codes "faults", as_number count) ∷ [])
 
 abbrev pub files_row : ℕ → Row
 files_row count = row 41 (codes "Files") ((codes "faults", as_number count) ∷ [])
+
+abbrev pub helper_row : ℕ → Row
+helper_row count = row 42 (codes "Helper") ((codes "faults", as_number count) ∷ [])
 
 abbrev pub output_row : ℕ → Row
 output_row count = row 43 (codes "Output") ((codes "faults", as_number count) ∷ [])
@@ -199,8 +211,15 @@ image_row (image.NotAnImageDir path) = folder_row path
 image_row (image.TooLarge kind length) = large_row kind length
 image_row (image.ManifestInvalid member) = manifest_row member
 image_row (image.Job job reason) = job_row job (cause_row reason)
+image_row (image.TlsRequired host) = tls_row host
+image_row (image.Garbled status first) = garbled_row status first
+image_row (image.BadAnswer at first) = answer_row at first
+image_row (image.LookasideRefused number status) = lookaside_row number status
+image_row (image.Encoded at) = encoded_row at
+image_row (image.TooManyRedirects at) = redirects_row at
 image_row (image.Files count) = files_row count
 image_row (image.Wire count) = wire_row count
+image_row (image.Helper count) = helper_row count
 image_row (image.BadReference text fault) = reference_row text (place.Reference fault)
 image_row (image.ShortName text count) = short_row text count
 image_row (image.Blocked table) = blocked_row table

@@ -9,6 +9,7 @@ use Rattle.skopeo_app.specs.Sinks.{SinkTold, IsLaterSink, Gained}
 use Rattle.skopeo_app.specs.Courses.{CommandTold}
 use Rattle.skopeo_app.specs.Task.{task_of, lanes_of}
 use Rattle.skopeo_app.specs.Lines.{status_of, status_of_refusal, refusal_line, err_lines}
+use Rattle.skopeo_app.specs.Asks.{AsksAt}
 use Rattle.skopeo_app.specs.Headline.{Headline}
 use Rattle.skopeo_app.specs.Stops.{Leaves}
 use Rattle.skopeo_app.specs.Answer.{IsAnswer}
@@ -18,6 +19,7 @@ pub record IsRun (words : List (List ℕ)) (home cwd : List ℕ) (before after :
   pub headline : Headline words home cwd before.seen after.seen
   pub leaves : Leaves words home cwd before.seen after.seen
   pub rest : KeepsFrom (lanes_of (task_of words cwd)) before.seen.lanes after.seen.lanes
+  pub asks : AsksAt (task_of words cwd) before.seen.helper.runs after.seen.helper.runs
   pub is : IsAnswer words home cwd before after answer
 
 -- a refusal, or want of memory, was told by its line and its status

@@ -34,8 +34,7 @@ use Rattle.skopeo_app.specs.declared.task.Task.TheVariants.{Page, Copy}
 abbrev pub asks_more : Common → Passing → Bool
 asks_more common passing =
     ((is_some common.location_cache || is_some common.os) || (is_some common.arch || is_some common.variant))
-    || ((passing.all || (passing.preserve || passing.remove_signatures))
-    || ((is_some passing.format || is_some passing.dest_tls) || (is_some passing.lookaside || is_some passing.verifier)))
+    || ((passing.all || (passing.preserve || passing.remove_signatures)) || (is_some passing.format || is_some passing.dest_tls))
 
 -- copies are built from a folder or a registry to a folder
 abbrev pub are_built : CopyPlan → Bool
@@ -70,7 +69,7 @@ chosen cwd common quiet plan = record { policy = choice_of cwd common; conf = co
 -- one copy
 unfoldable pub copy_of : List ℕ → Common → Passing → Bool → Bool → List ℕ → List ℕ → Result Task CommandRefusal
 copy_of cwd common passing quiet short_names source dest = do
-  plan ← plan_of cwd (lanes_for common) passing.src_tls short_names source dest
+  plan ← plan_of cwd (lanes_for common) passing short_names source dest
   _ ← built common passing plan
   Ok (Copy (chosen cwd common quiet plan))
 

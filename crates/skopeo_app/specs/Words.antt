@@ -18,8 +18,10 @@ use Rattle.skopeo_words.specs.declared.fault.WordsKind.{WordsKind}
 use Rattle.skopeo_words.specs.declared.fault.WordsKind.TheVariants as words
 use Rattle.transports.specs.declared.refusal.Part.{Part}
 use Rattle.transports.specs.declared.refusal.Part.TheVariants as part
-use Rattle.transports.specs.declared.refusal.Why.{Why}
-use Rattle.transports.specs.declared.refusal.Why.TheVariants as why
+use Rattle.policy_gate.specs.declared.fault.Reason.{Reason}
+use Rattle.policy_gate.specs.declared.fault.Reason.TheVariants as reason
+use Rattle.policy_gate.specs.declared.fault.Why.{Why}
+use Rattle.policy_gate.specs.declared.fault.Why.TheVariants as why
 use Rattle.skopeo_app.specs.declared.refusal.Unbuilt.{Unbuilt}
 use Rattle.skopeo_app.specs.declared.refusal.Unbuilt.TheVariants as unbuilt
 
@@ -37,6 +39,23 @@ part_word part.Place = codes "place"
 abbrev pub why_word : Why → List ℕ
 why_word why.Reject = codes "reject"
 why_word why.Sigstore = codes "sigstore"
+why_word why.NoSignature = codes "no-signature"
+why_word why.NoVerifier = codes "no-verifier"
+why_word why.KeyAbsent = codes "key-absent"
+why_word (why.Signatures reasons) = codes "signatures"
+
+-- why a signature is not accepted, and what was said or signed
+abbrev pub reason_word : Reason → List ℕ
+reason_word (reason.Bad text) = codes "bad"
+reason_word (reason.Payload pointer) = codes "payload"
+reason_word (reason.Identity text) = codes "identity"
+reason_word (reason.Digest text) = codes "digest"
+
+abbrev pub reason_text : Reason → List ℕ
+reason_text (reason.Bad text) = text
+reason_text (reason.Payload pointer) = pointer
+reason_text (reason.Identity text) = text
+reason_text (reason.Digest text) = text
 
 abbrev pub words_word : WordsKind → List ℕ
 words_word words.UnknownOption = codes "UnknownOption"

@@ -1,12 +1,13 @@
 // The lines that the command writes.
 ghost use Rattle.std.specs.Prelude.{◌≡◌, ◌++◌, IfOk, OnOk};
-ghost use Rattle.skopeo_app.specs.Lines.{row_text, attempts_in, attempts_of, attempt_line, attempt_lines, refusal_line, status_of_number, status_of_refusal};
+ghost use Rattle.skopeo_app.specs.Lines.{row_text, attempts_in, attempts_of, attempt_line, attempt_lines, reasons_by, reasons_in, reasons_of, signature_line, signature_lines, refusal_line, status_of_number, status_of_refusal};
 ghost use Rattle.skopeo_app.specs.Sinks.{sink_told};
 ghost use Rattle.skopeo_app.specs.Prints.{Prints};
 
 use crate::refusal::CommandRefusal;
 use crate::rows::{Printed, attempt_row, json_text, row_of};
-use copy_engine::{Attempt, Refusal};
+use crate::words::{reason_text, reason_word};
+use copy_engine::{Attempt, Reason, Refusal, Why};
 use skopeo_outside::{Memory, Sink, Stop, Text};
 use std::alloc::Global;
 
@@ -59,6 +60,13 @@ fn attempts_in(refusal: &Refusal) -> &[Attempt]
         Refusal::ShortName(_, _) => &[],
         Refusal::Blocked(_) => &[],
         Refusal::NoSource(attempts) => attempts.as_slice(),
+        Refusal::BadAnswer(_, _) => &[],
+        Refusal::Encoded(_) => &[],
+        Refusal::Garbled(_, _) => &[],
+        Refusal::Helper(_) => &[],
+        Refusal::LookasideRefused(_, _) => &[],
+        Refusal::TlsRequired(_) => &[],
+        Refusal::TooManyRedirects(_) => &[],
         Refusal::Memory => &[],
     }
 }
@@ -106,7 +114,100 @@ fn attempt_lines(alloc: Global, attempts: &[Attempt]) -> Result<Text, Memory>
     Ok(text)
 }
 
-/// The line of a refusal, one for each source that was asked in vain, and its status.
+/// The signatures of which none was accepted, and why not.
+fn reasons_by(why: &Why) -> &[Reason]
+    ensures { result.now ≡ reasons_by why.now }
+{
+    match why {
+        Why::Reject => &[],
+        Why::Sigstore => &[],
+        Why::NoSignature => &[],
+        Why::NoVerifier => &[],
+        Why::KeyAbsent => &[],
+        Why::Signatures(reasons) => reasons.as_slice(),
+    }
+}
+
+fn reasons_in(refusal: &Refusal) -> &[Reason]
+    ensures { result.now ≡ reasons_in refusal.now }
+{
+    match refusal {
+        Refusal::NotBuilt(_) => &[],
+        Refusal::Rejected(_, _, why) => reasons_by(why),
+        Refusal::NotAnImageDir(_) => &[],
+        Refusal::TooLarge(_, _) => &[],
+        Refusal::ManifestInvalid(_) => &[],
+        Refusal::Job(_, _) => &[],
+        Refusal::Files(_) => &[],
+        Refusal::Wire(_) => &[],
+        Refusal::BadReference(_, _) => &[],
+        Refusal::ShortName(_, _) => &[],
+        Refusal::Blocked(_) => &[],
+        Refusal::NoSource(_) => &[],
+        Refusal::BadAnswer(_, _) => &[],
+        Refusal::Encoded(_) => &[],
+        Refusal::Garbled(_, _) => &[],
+        Refusal::Helper(_) => &[],
+        Refusal::LookasideRefused(_, _) => &[],
+        Refusal::TlsRequired(_) => &[],
+        Refusal::TooManyRedirects(_) => &[],
+        Refusal::Memory => &[],
+    }
+}
+
+fn reasons_of(refusal: &CommandRefusal) -> &[Reason]
+    ensures { result.now ≡ reasons_of refusal.now }
+{
+    match refusal {
+        CommandRefusal::Words(_, _) => &[],
+        CommandRefusal::Reference(_, _) => &[],
+        CommandRefusal::SamePlace(_) => &[],
+        CommandRefusal::NotBuilt(_) => &[],
+        CommandRefusal::PolicyMissing(_) => &[],
+        CommandRefusal::PolicyInvalid(_, _, _) => &[],
+        CommandRefusal::PolicyTooLarge => &[],
+        CommandRefusal::ConfMissing(_) => &[],
+        CommandRefusal::ConfInvalid(_, _) => &[],
+        CommandRefusal::ConfTooLarge => &[],
+        CommandRefusal::Image(refusal) => reasons_in(refusal),
+        CommandRefusal::Output(_) => &[],
+    }
+}
+
+/// The line of one, by its number.
+#[tactic(auto, unfolding(crate::specs::Lines::signature_line))]
+fn signature_line(alloc: Global, number: usize, reason: &Reason) -> Result<Text, Memory>
+    ensures { IfOk result (λ text. text ≡ signature_line number reason.now) }
+{
+    let word = reason_word(reason);
+    let told = json_text(alloc, reason_text(reason))?;
+    let line = format!(in alloc; "signature {number} {word} {told}\n")?;
+    Ok(Text::from_string(line))
+}
+
+/// The lines of all.
+fn signature_lines(alloc: Global, reasons: &[Reason]) -> Result<Text, Memory>
+    ensures { IfOk result (λ text. text ≡ signature_lines 1 reasons.now) }
+{
+    let mut text = Text::new(alloc);
+    for (place, reason) in reasons.iter().enumerate() {
+        let line = signature_line(alloc, place + 1, reason)?;
+        text.push_str(line.as_str())?;
+    }
+    Ok(text)
+}
+
+/// The lines behind that of a refusal.
+fn push_more(alloc: Global, text: &mut Text, refusal: &CommandRefusal) -> Result<(), Memory>
+    ensures { OnOk result (text.new ≡ text.old ++ (attempt_lines 1 (attempts_of refusal.now) ++ signature_lines 1 (reasons_of refusal.now))) }
+{
+    let mut more = attempt_lines(alloc, attempts_of(refusal))?;
+    more.push_str(signature_lines(alloc, reasons_of(refusal))?.as_str())?;
+    text.push_str(more.as_str())
+}
+
+/// The line of a refusal, one for each source that was asked in vain and for each signature that was not accepted, and its
+/// status.
 #[tactic(auto, unfolding(crate::specs::Lines::refusal_line, crate::specs::Lines::printed))]
 pub fn refusal_line(alloc: Global, refusal: &CommandRefusal) -> Result<Line, Memory>
     ensures text { IfOk result (λ line. line.text ≡ refusal_line refusal.now) }
@@ -115,7 +216,7 @@ pub fn refusal_line(alloc: Global, refusal: &CommandRefusal) -> Result<Line, Mem
     let row = row_of(alloc, refusal)?;
     let mut text = Text::copy_of(alloc, "skopeo: ")?;
     push_row(&mut text, &row)?;
-    text.push_str(attempt_lines(alloc, attempts_of(refusal))?.as_str())?;
+    push_more(alloc, &mut text, refusal)?;
     Ok(Line {
         text,
         status: status_of_number(row.number),

@@ -2,7 +2,7 @@
 ghost use Rattle.std.specs.Prelude.{◌≡◌, IfOk};
 ghost use Rattle.std.specs.String.{string_bytes};
 ghost use Rattle.skopeo_app.specs.Words.{unbuilt_word, part_word, conf_word, conf_member};
-ghost use Rattle.skopeo_app.specs.Rows.{words_row, memory_row, reference_row, short_row, missing_row, policy_row, conf_row, blocked_row, sources_row, digest_row, rewrite_row, tls_row, scope_field, rejected_row, manifest_row, mismatch_row, absent_row, dest_row, folder_row, same_row, large_row, answer_row, source_row, encoded_row, redirects_row, unbuilt_row, wire_row, files_row, output_row, cause_row, attempt_row, job_row, image_row, row_of};
+ghost use Rattle.skopeo_app.specs.Rows.{words_row, memory_row, reference_row, short_row, missing_row, policy_row, conf_row, blocked_row, sources_row, digest_row, rewrite_row, tls_row, scope_field, rejected_row, manifest_row, mismatch_row, absent_row, dest_row, folder_row, same_row, garbled_row, large_row, answer_row, lookaside_row, source_row, encoded_row, redirects_row, unbuilt_row, wire_row, files_row, helper_row, output_row, cause_row, attempt_row, job_row, image_row, row_of};
 ghost use Rattle.skopeo_app.specs.Lines.{json_text, field_text, as_printed, printed, printed_in_job};
 
 use crate::refusal::CommandRefusal;
@@ -213,9 +213,9 @@ fn rejected_row(
     alloc: Global,
     scope: &Option<Text>,
     place: u32,
-    why: Why,
+    why: &Why,
 ) -> Result<Printed, Memory>
-    ensures { IfOk result (λ p. p ≡ printed (rejected_row scope.now place why)) }
+    ensures { IfOk result (λ p. p ≡ printed (rejected_row scope.now place why.now)) }
 {
     let scope = scope_text(alloc, scope)?;
     let why = why_word(why);
@@ -307,6 +307,19 @@ fn same_row(alloc: Global, path: &str) -> Result<Printed, Memory>
 }
 
 #[tactic(auto, unfolding(crate::specs::Lines::printed))]
+fn garbled_row(alloc: Global, status: i32, bytes: &[u8]) -> Result<Printed, Memory>
+    ensures { IfOk result (λ p. p ≡ printed (garbled_row status bytes.now)) }
+{
+    let bytes = hex::encode(alloc, bytes)?;
+    row(
+        alloc,
+        30,
+        "Garbled",
+        format!(in alloc; " status={status} bytes={bytes}\n")?,
+    )
+}
+
+#[tactic(auto, unfolding(crate::specs::Lines::printed))]
 fn large_row(alloc: Global, what: What, length: u64) -> Result<Printed, Memory>
     ensures { IfOk result (λ p. p ≡ printed (large_row what length)) }
 {
@@ -330,6 +343,18 @@ fn answer_row(alloc: Global, step: Step, bytes: &[u8]) -> Result<Printed, Memory
         32,
         "BadAnswer",
         format!(in alloc; " step={step} bytes={bytes}\n")?,
+    )
+}
+
+#[tactic(auto, unfolding(crate::specs::Lines::printed))]
+fn lookaside_row(alloc: Global, signature: u32, status: u16) -> Result<Printed, Memory>
+    ensures { IfOk result (λ p. p ≡ printed (lookaside_row signature status)) }
+{
+    row(
+        alloc,
+        33,
+        "LookasideRefused",
+        format!(in alloc; " signature={signature} status={status}\n")?,
     )
 }
 
@@ -386,6 +411,13 @@ fn files_row(alloc: Global, count: u64) -> Result<Printed, Memory>
     ensures { IfOk result (λ p. p ≡ printed (files_row count)) }
 {
     row(alloc, 41, "Files", format!(in alloc; " faults={count}\n")?)
+}
+
+#[tactic(auto, unfolding(crate::specs::Lines::printed))]
+fn helper_row(alloc: Global, count: u64) -> Result<Printed, Memory>
+    ensures { IfOk result (λ p. p ≡ printed (helper_row count)) }
+{
+    row(alloc, 42, "Helper", format!(in alloc; " faults={count}\n")?)
 }
 
 #[tactic(auto, unfolding(crate::specs::Lines::printed))]
@@ -472,13 +504,20 @@ fn image_row(alloc: Global, refusal: &Refusal) -> Result<Printed, Memory>
 {
     match refusal {
         Refusal::NotBuilt(part) => unbuilt_row(alloc, part_word(*part)),
-        Refusal::Rejected(scope, place, why) => rejected_row(alloc, scope, *place, *why),
+        Refusal::Rejected(scope, place, why) => rejected_row(alloc, scope, *place, why),
         Refusal::NotAnImageDir(path) => folder_row(alloc, path.as_str()),
         Refusal::TooLarge(what, length) => large_row(alloc, *what, *length),
         Refusal::ManifestInvalid(member) => manifest_row(alloc, member.as_str()),
         Refusal::Job(job, cause) => job_row(alloc, *job, cause),
+        Refusal::TlsRequired(host) => tls_row(alloc, host.as_str()),
+        Refusal::Garbled(status, bytes) => garbled_row(alloc, *status, bytes.as_slice()),
+        Refusal::BadAnswer(step, bytes) => answer_row(alloc, *step, bytes.as_slice()),
+        Refusal::LookasideRefused(number, status) => lookaside_row(alloc, *number, *status),
+        Refusal::Encoded(step) => encoded_row(alloc, *step),
+        Refusal::TooManyRedirects(step) => redirects_row(alloc, *step),
         Refusal::Files(count) => files_row(alloc, *count),
         Refusal::Wire(count) => wire_row(alloc, *count),
+        Refusal::Helper(count) => helper_row(alloc, *count),
         Refusal::BadReference(text, fault) => {
             reference_row(alloc, text.as_str(), PlaceFault::Reference(*fault))
         }

@@ -4,7 +4,7 @@ ghost use Rattle.std.specs.String.{string_bytes};
 ghost use Rattle.skopeo_outside.specs.Steps.{Says};
 ghost use Rattle.skopeo_app.specs.Refusals.{is_output};
 ghost use Rattle.skopeo_app.specs.Courses.{command_course};
-ghost use Rattle.skopeo_app.specs.Plan.{place_at, is_folder, is_registry, folder_in, are_same, apart, lanes_for, hostless, short_for, plan_of};
+ghost use Rattle.skopeo_app.specs.Plan.{place_at, is_folder, is_registry, folder_in, are_same, apart, lanes_for, hostless, short_for, verifier_for, plan_between, plan_of};
 ghost use Rattle.skopeo_app.specs.Task.{asks_more, are_built, built, by_path, choice_of, by_conf_path, conf_choice_of, chosen, copy_of, unbuilt_at, unbuilt_sync, task_in, IsSound, task_of};
 
 use crate::refusal::{CommandRefusal, Unbuilt};
@@ -161,32 +161,72 @@ fn short_for(
     }
 }
 
-/// The places of a copy, its lanes and its short name.
+/// The program that judges signatures, where one is named.
+fn verifier_for(alloc: Global, cwd: &str, passing: &Passing) -> Result<Option<Text>, Memory>
+    ensures { IfOk result (λ verifier. verifier ≡ verifier_for cwd.now passing.now) }
+{
+    match &passing.verifier {
+        Some(path) => Ok(Some(clean_path(alloc, cwd, path.as_str())?)),
+        None => Ok(None),
+    }
+}
+
+/// The store of signatures, where one is named.
+fn lookaside_for(alloc: Global, passing: &Passing) -> Result<Option<Text>, Memory>
+    ensures { IfOk result (λ lookaside. lookaside ≡ passing.now.lookaside) }
+{
+    match &passing.lookaside {
+        Some(base) => Ok(Some(Text::copy_of(alloc, base.as_str())?)),
+        None => Ok(None),
+    }
+}
+
+/// The plan of a copy between two places, with what its options say.
+fn plan_between(
+    alloc: Global,
+    cwd: &str,
+    lanes: u32,
+    passing: &Passing,
+    short: Option<Text>,
+    from: Place,
+    to: Place,
+) -> Result<CopyPlan, Memory>
+    ensures { IfOk result (λ p. p ≡ plan_between cwd.now lanes passing.now short from to) }
+{
+    let lookaside = lookaside_for(alloc, passing)?;
+    let verifier = verifier_for(alloc, cwd, passing)?;
+    Ok(CopyPlan {
+        source: from,
+        short,
+        dest: to,
+        lanes,
+        src_tls: passing.src_tls,
+        lookaside,
+        verifier,
+        cwd: Text::copy_of(alloc, cwd)?,
+    })
+}
+
+/// The places of a copy, its lanes, its short name, and what its options say.
 #[tactic(auto, using(crate::proofs::TaskLemmas::then_says, crate::proofs::TaskLemmas::then_refuses, crate::proofs::TaskLemmas::says_memory), unfolding(crate::specs::Plan::plan_of))]
 fn plan_of(
     alloc: Global,
     cwd: &str,
     lanes: u32,
-    src_tls: Option<bool>,
+    passing: &Passing,
     short_names: bool,
     source: &str,
     dest: &str,
 ) -> Result<CopyPlan, CommandRefusal>
     ensures apart { IfOk result (λ p. are_same p ≡ false) }
     ensures lanes { IfOk result (λ p. p.lanes ≡ lanes) }
-    ensures says { Says command_course (plan_of cwd.now lanes src_tls short_names source.now dest.now) result }
+    ensures says { Says command_course (plan_of cwd.now lanes passing.now short_names source.now dest.now) result }
     ensures other { IfErr result (λ e. is_output e ≡ false) }
 {
     let from = place_at(alloc, cwd, source)?;
     let to = place_at(alloc, cwd, dest)?;
     let short = short_for(alloc, short_names, &from, source)?;
-    let plan = CopyPlan {
-        source: from,
-        short,
-        dest: to,
-        lanes,
-        src_tls,
-    };
+    let plan = plan_between(alloc, cwd, lanes, passing, short, from, to)?;
     apart(alloc, plan)
 }
 
@@ -202,8 +242,6 @@ fn asks_more(common: &Common, passing: &Passing) -> bool
         || passing.remove_signatures
         || passing.format.is_some()
         || passing.dest_tls.is_some()
-        || passing.lookaside.is_some()
-        || passing.verifier.is_some()
 }
 
 fn are_built(plan: &CopyPlan) -> bool
@@ -295,12 +333,11 @@ fn copy_of(
     ensures says { Says command_course (copy_of cwd.now common.now passing.now quiet short_names source.now dest.now) result }
     ensures other { IfErr result (λ e. is_output e ≡ false) }
 {
-    let tls = passing.src_tls;
     let plan = plan_of(
         alloc,
         cwd,
         lanes_for(common),
-        tls,
+        passing,
         short_names,
         source,
         dest,

@@ -1,10 +1,10 @@
 // The words of fixed lists that the lines of refusals have.
 ghost use Rattle.std.specs.Prelude.{◌≡◌, decimal, IfOk};
 ghost use Rattle.image_ref.specs.Reading.{offset};
-ghost use Rattle.skopeo_app.specs.Words.{unbuilt_word, part_word, why_word, words_word, policy_word, conf_word, conf_member, reference_word, place_word, place_offset, what_word, step_word};
+ghost use Rattle.skopeo_app.specs.Words.{unbuilt_word, part_word, why_word, reason_word, reason_text, words_word, policy_word, conf_word, conf_member, reference_word, place_word, place_offset, what_word, step_word};
 
 use crate::refusal::Unbuilt;
-use copy_engine::{Part, Why};
+use copy_engine::{Part, Reason, Why};
 use image_ref::{PlaceFault, RefFault};
 use policy_file::PolicyKind;
 use registries_conf::ConfFault;
@@ -32,12 +32,40 @@ pub fn part_word(part: Part) -> &'static str
     }
 }
 
-pub fn why_word(why: Why) -> &'static str
-    ensures { result.now ≡ why_word why }
+pub fn why_word(why: &Why) -> &'static str
+    ensures { result.now ≡ why_word why.now }
 {
     match why {
         Why::Reject => "reject",
         Why::Sigstore => "sigstore",
+        Why::NoSignature => "no-signature",
+        Why::NoVerifier => "no-verifier",
+        Why::KeyAbsent => "key-absent",
+        Why::Signatures(_) => "signatures",
+    }
+}
+
+/// Why a signature is not accepted.
+pub fn reason_word(reason: &Reason) -> &'static str
+    ensures { result.now ≡ reason_word reason.now }
+{
+    match reason {
+        Reason::Bad(_) => "bad",
+        Reason::Payload(_) => "payload",
+        Reason::Identity(_) => "identity",
+        Reason::Digest(_) => "digest",
+    }
+}
+
+/// What was said of it, or signed.
+pub fn reason_text(reason: &Reason) -> &str
+    ensures { result.now ≡ reason_text reason.now }
+{
+    match reason {
+        Reason::Bad(text) => text.as_str(),
+        Reason::Payload(pointer) => pointer.as_str(),
+        Reason::Identity(text) => text.as_str(),
+        Reason::Digest(text) => text.as_str(),
     }
 }
 

@@ -11,9 +11,10 @@ mod stream;
 use begin::{Unbegun, begin, refuse};
 use notes::explain;
 use real_files::{Disk, Progress, RealFiles};
+use real_helper::RealHelper;
 use real_wires::RealWire;
 use skopeo_app::skopeo;
-use skopeo_outside::{Idle, Lane};
+use skopeo_outside::Lane;
 use skopeo_words::{Command, read_words};
 use std::alloc::{AllocError, Global};
 use std::io::IsTerminal;
@@ -65,7 +66,7 @@ fn main(rt: HostRuntime) -> ExitCode {
         Ok(lanes) => lanes,
         Err(_) => return ExitCode::from(refuse(&rt, &Unbegun::Memory)),
     };
-    let mut helper = Idle::new();
+    let mut helper = RealHelper::new(&rt);
     let mut out = Stream::new(rt.stdout(), &progress);
     let mut err = Stream::new(rt.stderr(), &progress);
     let status = skopeo(

@@ -12,4 +12,4 @@ pub returns-clause-reads : goal.returns-clause-reads
 returns-clause-reads g c =
     let x = c.index_mut.result.now in
     let is : slice_index_or c.args.lanes.now.items 0 x ≡ x = search rules in
-    first_reads c.args.home.now c.args.cwd.now c.args.task.now c.args.lanes.now.items x c.read_rules.new.lane c.read_rules.result c.requires.lanes.some is c.read_rules.ensures.reads
+    λ runs faults. first_reads c.args.home.now c.args.cwd.now c.args.task.now c.args.lanes.now.items x c.read_rules.new.lane runs faults c.read_rules.result c.requires.lanes.some is c.read_rules.ensures.reads
