@@ -2,3 +2,4 @@ pub mod GateLemmas
 pub mod JobLemmas
 pub mod CountLemmas
 pub mod AdmitLemmas
+pub mod WalkLemmas

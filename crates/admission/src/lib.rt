@@ -8,6 +8,6 @@ mod read;
 mod take;
 mod walk;
 
-pub use admitted::{Admitted, admit};
+pub use admitted::Admitted;
 pub use take::Taken;
 pub use walk::admit_source;

@@ -1,10 +1,12 @@
 // What is put to the gate of a plan's image.
-ghost use Rattle.std.specs.Prelude.{◌≡◌, IfOk};
+ghost use Rattle.std.specs.Prelude.{◌≡◌, None, Ok, IfOk};
 ghost use Rattle.json_tree.specs.Tree.{tree};
 ghost use Rattle.skopeo_outside.specs.Steps.{Ends, Says};
 ghost use Rattle.manifest_v2s2.specs.IsImage.{SaysImage};
 ghost use Rattle.transports.specs.Courses.{lane_course};
-ghost use Rattle.transports.specs.Given.{Spares};
+ghost use Rattle.transports.specs.StepEnds.{reading};
+ghost use Rattle.transports.specs.Stores.{store_of};
+ghost use Rattle.transports.specs.Given.{Spares, SignaturesEnd};
 ghost use Rattle.transports.specs.Has.{IsUntouched};
 ghost use Rattle.admission.specs.Walk.{submission};
 
@@ -12,7 +14,7 @@ use crate::parts::{read_parts, require_kind};
 use image_ref::Place;
 use manifest_v2s2::{Image, Kind};
 use registries_conf::Conf;
-use skopeo_outside::{Files, Lane, Many, Wire};
+use skopeo_outside::{Fetched, Files, Lane, Many, Wire};
 use std::alloc::Global;
 use std::marker::Model;
 use transports::{CopyPlan, Found, FoundImage, Refusal, Source, find_source, store_of};
@@ -37,6 +39,50 @@ impl Model for Submission {
     ghost view = { λ s. record { from = s.from; place = s.place; manifest = s.manifest; kind = s.kind; image = s.image; signatures = s.signatures } };
 }
 
+/// What is put to the gate, together.
+#[tactic(auto, unfolding(skopeo_outside::specs::Steps::Says))]
+fn submitted(
+    from: Source,
+    place: Place,
+    fetched: Fetched,
+    kind: Kind,
+    image: Image,
+    signatures: Many<Many<u8>>,
+) -> Result<Submission, Refusal>
+    requires image { SaysImage kind (tree fetched.bytes) image }
+    ensures says { Says lane_course (Ok (record { from = from; place = place; manifest = fetched.bytes; kind = kind; image = image; signatures = signatures })) result }
+    ensures from { IfOk result (λ s. s.from ≡ from) }
+    ensures image { IfOk result (λ s. SaysImage s.kind (tree s.manifest) s.image) }
+{
+    Ok(Submission {
+        from,
+        place,
+        manifest: fetched.bytes,
+        kind,
+        image,
+        signatures,
+    })
+}
+
+/// The signatures of the image at a place, as it is named, whose manifest was fetched from its source.
+#[tactic(auto, using(transports::proofs::SameLemmas::ends_at_once, transports::proofs::SameLemmas::untouched_same, transports::proofs::SameLemmas::spares_same))]
+fn signatures_of<W: Wire, F: Files>(
+    alloc: Global,
+    plan: &CopyPlan,
+    place: &Place,
+    from: &Source,
+    fetched: &Fetched,
+    lane: &mut Lane<W, F>,
+) -> Result<Many<Many<u8>>, Refusal>
+    ensures ends { let store = store_of plan.now place.now fetched.now.bytes in
+        Ends lane_course (reading (SignaturesEnd from.now store None)) lane.old lane.new result }
+    ensures untouched { IsUntouched lane.old lane.new }
+    ensures spares { Spares from.now lane.old lane.new }
+{
+    let store = store_of(alloc, plan, place, fetched.bytes.as_slice())?;
+    from.read_signatures(alloc, lane, &store, None)
+}
+
 /// Reads the plan's source: the image's manifest, and its signatures.
 #[tactic(auto, using(skopeo_outside::proofs::StepLemmas::given_goes, skopeo_outside::proofs::StepLemmas::given_stops, skopeo_outside::proofs::StepLemmas::given_ends, skopeo_outside::proofs::StepLemmas::then_ends, skopeo_outside::proofs::StepLemmas::then_stops, transports::proofs::HasLemmas::untouched_then, transports::proofs::GivenLemmas::spares_then), unfolding(crate::specs::Walk::submission))]
 pub(crate) fn read_source<W: Wire, F: Files>(
@@ -54,14 +100,6 @@ pub(crate) fn read_source<W: Wire, F: Files>(
     let Found { from, fetched } = found;
     let kind = require_kind(alloc, &fetched)?;
     let image = read_parts(alloc, kind, &fetched)?;
-    let store = store_of(alloc, plan, &place, fetched.bytes.as_slice())?;
-    let signatures = from.read_signatures(alloc, lane, &store, None)?;
-    Ok(Submission {
-        from,
-        place,
-        manifest: fetched.bytes,
-        kind,
-        image,
-        signatures,
-    })
+    let signatures = signatures_of(alloc, plan, &place, &from, &fetched, lane)?;
+    submitted(from, place, fetched, kind, image, signatures)
 }

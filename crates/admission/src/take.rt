@@ -12,9 +12,13 @@ pub struct Taken<F: Files, H: Helper> {
 }
 
 impl<F: Files, H: Helper> Model for Taken<F, H> {
+    ghost use Rattle.std.specs.Coded.{codes};
+    ghost use Rattle.skopeo_outside.specs.Shelf.{tree_code};
     ghost use Rattle.admission.specs.Taken.{TakenImage};
 
     ghost Value = { TakenImage };
+
+    ghost coded = { Prim.hlevel (codes, tree_code) };
 
     ghost view = { λ t. record { from = t.from; image = t.image } };
 }

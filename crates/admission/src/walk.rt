@@ -17,6 +17,7 @@ use std::alloc::Global;
 use transports::{CopyPlan, Refusal};
 
 /// Reads the plan's source, and judges the image as it is named.
+#[tactic(auto, using(crate::proofs::WalkLemmas::read_goes, crate::proofs::WalkLemmas::read_stops, crate::proofs::GateLemmas::asks_none, transports::proofs::HasLemmas::untouched_then, transports::proofs::GivenLemmas::spares_then), unfolding(crate::specs::Walk::admission))]
 pub fn admit_source<W: Wire, F: Files, H: Helper>(
     alloc: Global,
     plan: &CopyPlan,
