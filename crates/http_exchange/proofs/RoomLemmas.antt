@@ -17,7 +17,7 @@ moved_front at end old new le within is =
     let back : at + n ≡ end = omega (arith, le) in
     let none : n ≡ 0 + n = omega arith in
     ap (λ (w : List ℕ). take n w) is ∙ ap (λ (k : ℕ). take k (paste old 0 (drop at old) n)) none ∙ take-paste old 0 (drop at old) n (omega arith) fits ∙ sym (drop-take at n old)
-        ∙ ap (λ (k : ℕ). drop at (take k old)) back
+    ∙ ap (λ (k : ℕ). drop at (take k old)) back
 
 -- what was received behind the bytes that wait stands there
 joined_behind : (waiting room after : List ℕ) (start end count : ℕ) → waiting ≡ drop start (take end room) → take end after ≡ take end room
@@ -25,7 +25,7 @@ joined_behind : (waiting room after : List ℕ) (start end count : ℕ) → wait
 joined_behind waiting room after start end count same front le within =
     let fits : start ≤ length (take end after) = omega (arith, length-take end after, le, within) in
     ap (λ (w : List ℕ). drop start w) (take-add end count after) ∙ drop-append-le start (take end after) (take count (drop end after)) fits
-        ∙ ap (λ (w : List ℕ). w ++ take count (drop end after)) (ap (λ (w : List ℕ). drop start w) front ∙ sym same)
+    ∙ ap (λ (w : List ℕ). w ++ take count (drop end after)) (ap (λ (w : List ℕ). drop start w) front ∙ sym same)
 
 length_behind : (after : List ℕ) (end count : ℕ) → end + count ≤ length after → length (take count (drop end after)) ≡ count
 length_behind after end count within = omega (arith, length-take count (drop end after), length-drop end after, within)

@@ -193,11 +193,7 @@ impl Inbox {
             Ok(count) => count,
             Err(stop) => return Err(fault_of_stop(stop)),
         };
-        let known = note(
-            &mut self.first,
-            self.known,
-            &self.buffer[end..end + count],
-        );
+        let known = note(&mut self.first, self.known, &self.buffer[end..end + count]);
         self.known = known;
         self.end = end + count;
         Ok(count > 0)
