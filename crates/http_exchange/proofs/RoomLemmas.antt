@@ -1,5 +1,5 @@
 -- Bytes that wait between two offsets of a buffer, moved to its front, and more of them received behind.
-use Rattle.std.proofs.Common.{◌≡◌, ℕ, ◌+◌, ◌-◌, ◌<◌, ◌≤◌, ◌==◌, Bool, true, false, not, nat_lt, List, [], ◌∷◌, ◌++◌, length, length-append, length-take, take, drop, Ok, refl, arith, ap, sym, subst, ◌∙◌}
+use Rattle.std.proofs.Common.{◌≡◌, ℕ, ◌+◌, ◌-◌, ◌≤◌, ◌==◌, nat_lt, List, [], ◌∷◌, ◌++◌, length, length-append, length-take, take, drop, Ok, refl, arith, ap, sym, subst, ◌∙◌}
 use Rattle.std.proofs.Math.Seq.{paste, take-add}
 use Rattle.std.proofs.lemmas.List.{length-drop, drop-take, drop-append-le, take_at}
 use Rattle.std.proofs.lemmas.List.Edits.{take-paste}
