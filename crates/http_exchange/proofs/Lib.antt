@@ -1,3 +1,4 @@
+pub mod RoomLemmas
 pub mod Rounds
 pub mod Ends
 pub mod ChunkRuns

@@ -1,5 +1,5 @@
 -- Requests that put no manifest stay such requests wherever redirects lead.
-use Rattle.std.proofs.Common.{◌≡◌, ℕ, zero, suc, ◌≤◌, ◌⊎◌, inl, inr, Bool, true, false, cond, ◌&&◌, nat_le, nat_eq, List, [], ◌∷◌, ◌++◌, length, drop, codes, refl, arith, ap, sym, subst, ◌∙◌, Option, Some, None, Result, Contains}
+use Rattle.std.proofs.Common.{◌≡◌, ℕ, zero, suc, ◌≤◌, ◌⊎◌, inl, inr, Bool, true, false, cond, ◌&&◌, nat_le, nat_eq, List, [], ◌∷◌, ◌++◌, length, drop, codes, refl, arith, ap, sym, subst, ◌∙◌, Option, Some, None, Result, map, Contains}
 use Rattle.std.specs.List.{starts_with}
 use Rattle.std.proofs.lemmas.List.Elements.{Contains-append_cases}
 use Rattle.std.proofs.lemmas.Bool.{and_parts}
@@ -32,6 +32,8 @@ use Rattle.http_exchange.specs.Locations.{plain, tls, nowhere, target_in, port_o
 use Rattle.http_exchange.specs.Talk.{Asks}
 use Rattle.http_exchange.specs.Asked.{AtMostOne, none, one}
 use Rattle.http_exchange.specs.Chain.{Hop, Follows, Exchanges, request_at}
+use Rattle.http_message.specs.Shown.{field_bytes}
+use Rattle.http_exchange.specs.Hopping.{IsNext}
 use Rattle.http_exchange.specs.Plain.{IsMild, PlainExchange, PlainOpening}
 
 -- ---- texts of visible bytes
@@ -254,3 +256,9 @@ gained_one r size body c old new m le asks g = record {
   told = g;
   each = λ d among. subst (λ (x : Conversation). IsOneRequest x.sent) (only c d among) (asks_one r body size c m le asks);
 }
+
+-- the request that a redirect leads to may be sent too
+pub may_follow : (r next : Request) (head : Head) (size : ℕ) → MaySend r size → IsNext r head next → MaySend next size
+may_follow r next head size m is =
+    let led : Led r.host is.host is.target = lead_led r.host r.port (location_in (told_headers (map field_bytes head.fields.items))) is.host is.target is.port is.leads in
+    subst (λ (q : Request). MaySend q size) (sym is.next_is) (may_at r size is.host is.target is.port led m)

@@ -232,7 +232,7 @@ none_found {T} {a} {b} {h} Found Stops r q = record { added = q.added; ended = q
     by_result (Ok v) n = absurd n
     by_result (Err e) n = n
 
-end_of_count : (count : ℕ) → (count == 0) ≡ not (nat_lt 0 count)
+pub end_of_count : (count : ℕ) → (count == 0) ≡ not (nat_lt 0 count)
 end_of_count count = grind (arith, nat_tests)
 
 pub some_count : (count : ℕ) → nat_lt 0 count ≡ true → 0 < count

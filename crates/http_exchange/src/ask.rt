@@ -1,5 +1,6 @@
 // One request, up to the head of its answer.
-ghost use Rattle.std.specs.Prelude.{◌≡◌, [], ℕ, List, codes, None, IsTrue, OnOk};
+ghost use Rattle.std.specs.Prelude.{◌≡◌, [], ℕ, List, codes, length, None, IsTrue, OnOk};
+ghost use Rattle.http_message.specs.Requests.{MaySend};
 ghost use Rattle.http_message.specs.Sent.{is_text};
 ghost use Rattle.http_exchange.specs.Received.{CountsFaults};
 ghost use Rattle.http_exchange.specs.Reader.{fresh};
@@ -29,6 +30,7 @@ pub fn is_head(request: &Request) -> bool
 }
 
 /// Sends a request with its body, and receives the head of its answer.
+#[tactic(auto, using(http_message::proofs::LaxHeads::may_counted))]
 pub fn ask<W: Wire>(
     alloc: Global,
     wire: &mut W,
@@ -36,7 +38,8 @@ pub fn ask<W: Wire>(
     body: &[u8],
     reader: &mut Body,
 ) -> Result<Head, AnswerFault>
-    requires { reader.old ≡ fresh }
+    requires may { MaySend request.now (length body.now) }
+    requires fresh { reader.old ≡ fresh }
     ensures open { OnOk result (IsTrue (W.is_open wire.new)) }
     ensures alive { reader.new.failed ≡ None }
     ensures asked { Asked request.now body.now (W.conversations wire.old) (W.conversations wire.new) reader.new result }

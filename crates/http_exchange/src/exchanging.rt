@@ -26,7 +26,8 @@ fn exchange_by<W: Wire>(
     limit: u64,
     reader: &mut Body,
 ) -> Result<Response, ExchangeFault>
-    requires { reader.old ≡ fresh }
+    requires may { MaySend request.now (length body.now) }
+    requires fresh { reader.old ≡ fresh }
     ensures exchanged { Exchanges step request.now body.now limit (W.conversations wire.old) (W.conversations wire.new) result }
     ensures faults { CountsWire (W.faults wire.old) (W.faults wire.new) result }
 {

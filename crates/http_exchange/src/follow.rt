@@ -1,5 +1,6 @@
 // A request, and the redirects that are followed from it.
-ghost use Rattle.std.specs.Prelude.{◌≡◌, ◌==◌, ◌&&◌, ◌||◌, ◌≤◌, [], map, None, codes, IfOk, IsTrue, OnOk};
+ghost use Rattle.std.specs.Prelude.{◌≡◌, ◌==◌, ◌&&◌, ◌||◌, ◌≤◌, [], map, None, codes, length, IfOk, IsTrue, OnOk};
+ghost use Rattle.http_message.specs.Requests.{MaySend};
 ghost use Rattle.http_message.specs.Shown.{field_bytes};
 ghost use Rattle.http_message.specs.Sent.{is_text};
 ghost use Rattle.http_message.specs.Spelling.{told_headers};
@@ -145,7 +146,8 @@ pub fn follow<W: Wire>(
     reader: &mut Body,
     left: u32,
 ) -> Result<Head, ExchangeFault>
-    requires { reader.old ≡ fresh }
+    requires may { MaySend request.now (length body.now) }
+    requires fresh { reader.old ≡ fresh }
     ensures open { OnOk result (IsTrue (W.is_open wire.new)) }
     ensures alive { reader.new.failed ≡ None }
     ensures chained { Chained step request.now body.now left (W.conversations wire.old) (W.conversations wire.new) reader.new result }

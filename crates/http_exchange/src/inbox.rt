@@ -1,33 +1,36 @@
 // What has come on a connection: the first bytes of all, and those that wait to be read.
-ghost use Rattle.std.specs.Prelude.{[], ◌≡◌, ◌++◌, ◌≤◌, ◌<◌, ◌-◌, ◌+◌, List, ℕ, Bool, true, false, take, drop, length, vec_len, IsTrue, IfOk, OnOk, OnErr, IsErrOf};
+ghost use Rattle.std.specs.Prelude.{[], ◌≡◌, ◌==◌, ◌++◌, ◌≤◌, ◌<◌, ◌-◌, ◌+◌, List, ℕ, Bool, true, false, take, drop, length, vec_len, IsTrue, IfOk, OnOk, OnErr, IsErrOf};
+ghost use Rattle.skopeo_outside.specs.Outside.{HasCause};
+ghost use Rattle.skopeo_outside.specs.Wire.{GoesOn, with_received};
 ghost use Rattle.http_exchange.specs.Received.{Held, Notes, empty, Receives, Filled, NotFilled, CountsFaults, fault_of_stop};
 ghost use Rattle.http_exchange.specs.Found.{Passed, Given, NoneCame};
 
 use http_message::{AnswerFault, MOST_BYTES};
-use skopeo_outside::{Stop, Wire};
+use skopeo_outside::{Memory, Stop, Wire};
 use std::alloc::Global;
 use std::marker::Model;
 
-const PIECE: usize = 8192;
+const FIRST_ROOM: usize = 4096;
 
 const MOST_SHOWN: usize = 64;
 
-/// The first 64 bytes that came, and a buffer of at most 65,536 bytes, behind whose offset those wait that were not read
-/// yet.
+/// The first 64 bytes that came, and a buffer of at most 65,536 bytes, in which those wait, between two offsets, that
+/// were not read yet. What stands behind them is room, zeroed once, into which more is received.
 #[derive(Drop)]
 pub struct Inbox {
     first: [u8; 64],
     known: usize,
     buffer: Vec<u8>,
     at: usize,
+    end: usize,
 }
 
 impl Model for Inbox {
     ghost Value = { Held };
 
-    ghost view = { λ i. record { first = take i.known i.first; waiting = drop i.at i.buffer.items } };
+    ghost view = { λ i. record { first = take i.known i.first; waiting = drop i.at (take i.end i.buffer.items) } };
 
-    ghost invariant = { λ i. (i.at ≤ vec_len i.buffer) × (i.known ≤ 64) × (vec_len i.buffer ≤ 65536) };
+    ghost invariant = { λ i. (i.at ≤ i.end) × (i.end ≤ vec_len i.buffer) × (i.known ≤ 64) × (vec_len i.buffer ≤ 65536) };
 }
 
 /// Adds a piece to the first bytes, as far as there is room.
@@ -42,17 +45,68 @@ fn note(first: &mut [u8], known: usize, piece: &[u8]) -> usize
     known + count
 }
 
-/// Drops the bytes at the front that were read. Where none were, nothing is moved.
-fn drop_front(buffer: &mut Vec<u8>, at: usize)
-    requires { at ≤ vec_len buffer.old }
-    ensures { buffer.new.items ≡ drop at buffer.old.items }
+/// Moves the bytes between two offsets to the front.
+fn move_front(buffer: &mut [u8], at: usize, end: usize)
+    requires waits { at ≤ end }
+    requires within { end ≤ length buffer.old }
+    ensures len { length buffer.new ≡ length buffer.old }
+    ensures front { take (end - at) buffer.new ≡ drop at (take end buffer.old) }
 {
-    if at == 0 {
-        return;
+    buffer.copy_within(at..end, 0);
+}
+
+/// Lengthens a buffer by zeros, to twice its length, and to 4,096 bytes at least and 65,536 at most.
+fn grow(buffer: &mut Vec<u8>) -> Result<(), Memory>
+    requires short { vec_len buffer.old < 65536 }
+    ensures longer { OnOk result (vec_len buffer.old < vec_len buffer.new) }
+    ensures most { vec_len buffer.new ≤ 65536 }
+    ensures front { take (vec_len buffer.old) buffer.new.items ≡ buffer.old.items }
+{
+    let len = (buffer.len() * 2).max(FIRST_ROOM).min(MOST_BYTES);
+    buffer.resize(len, 0)?;
+    Ok(())
+}
+
+/// Makes room for a byte at least behind the bytes that wait between two offsets: where they begin now. They are moved
+/// only where they reach the end, and the buffer grows only where they fill it.
+fn make_room(buffer: &mut Vec<u8>, at: usize, end: usize) -> Result<usize, Memory>
+    requires waits { at ≤ end }
+    requires within { end ≤ vec_len buffer.old }
+    requires most { vec_len buffer.old ≤ 65536 }
+    requires some { end - at < 65536 }
+    ensures room { IfOk result (λ start. start + (end - at) < vec_len buffer.new) }
+    ensures same { IfOk result (λ start. drop start (take (start + (end - at)) buffer.new.items) ≡ drop at (take end buffer.old.items)) }
+    ensures most { vec_len buffer.new ≤ 65536 }
+    ensures kept { OnErr result (end ≤ vec_len buffer.new) }
+{
+    if at == end && 0 < end {
+        return Ok(0);
     }
-    let len = buffer.len() - at;
-    buffer.as_mut_slice().rotate_left(at);
-    buffer.truncate(len);
+    if end < buffer.len() {
+        return Ok(at);
+    }
+    if 0 < at {
+        move_front(buffer.as_mut_slice(), at, end);
+        return Ok(0);
+    }
+    grow(buffer)?;
+    Ok(0)
+}
+
+/// Receives some bytes behind an offset. Nothing is the end.
+fn receive_behind<W: Wire>(wire: &mut W, buffer: &mut [u8], end: usize) -> Result<usize, Stop>
+    requires open { IsTrue (W.is_open wire.old) }
+    requires room { end < length buffer.old }
+    ensures open { OnOk result (IsTrue (W.is_open wire.new)) }
+    ensures len { length buffer.new ≡ length buffer.old }
+    ensures front { take end buffer.new ≡ take end buffer.old }
+    ensures within { IfOk result (λ count. end + count ≤ length buffer.new) }
+    ensures received { IfOk result (λ count. GoesOn (with_received (take count (drop end buffer.new)) (count == 0))
+        (W.conversations wire.old) (W.conversations wire.new)) }
+    ensures nothing { OnErr result (W.conversations wire.new ≡ W.conversations wire.old) }
+    ensures cause { HasCause (W.faults wire.old) (W.faults wire.new) result }
+{
+    wire.recv(&mut buffer[end..])
 }
 
 /// The fault that a stop of the wire comes to.
@@ -75,6 +129,7 @@ impl Inbox {
             known: 0,
             buffer: Vec::new(alloc),
             at: 0,
+            end: 0,
         }
     }
 
@@ -90,7 +145,7 @@ impl Inbox {
         ensures waiting { result.now ≡ self.now.waiting }
         ensures most { length self.now.waiting ≤ 65536 }
     {
-        &self.buffer[self.at..]
+        &self.buffer[self.at..self.end]
     }
 
     /// How many bytes were not read yet.
@@ -98,7 +153,7 @@ impl Inbox {
         ensures len { result ≡ length self.now.waiting }
         ensures most { result ≤ 65536 }
     {
-        self.buffer.len() - self.at
+        self.end - self.at
     }
 
     /// Passes over bytes that were read.
@@ -118,39 +173,7 @@ impl Inbox {
         self.known = note(&mut self.first, self.known, piece);
     }
 
-    /// Puts a piece at the end, in the room of the bytes that were read. Want of memory may lose it.
-    fn add(&mut self, piece: &[u8]) -> Result<(), AnswerFault>
-        requires room { length self.old.waiting + length piece.now ≤ 65536 }
-        ensures noted { Notes self.old.first piece.now self.new.first }
-        ensures ok { OnOk result (self.new.waiting ≡ self.old.waiting ++ piece.now) }
-        ensures err { OnErr result (IsErrOf result AnswerFault.Memory) }
-    {
-        self.note_came(piece);
-        drop_front(&mut self.buffer, self.at);
-        self.at = 0;
-        self.buffer.extend_from_slice(piece)?;
-        Ok(())
-    }
-
-    /// Receives one piece by way of `piece`. False is the end.
-    fn fill_by<W: Wire>(&mut self, wire: &mut W, piece: &mut [u8]) -> Result<bool, AnswerFault>
-        requires open { IsTrue (W.is_open wire.old) }
-        requires some { 0 < length piece.old }
-        requires room { length self.old.waiting + length piece.old ≤ 65536 }
-        ensures open { OnOk result (IsTrue (W.is_open wire.new)) }
-        ensures received { Receives (W.conversations wire.old) (W.conversations wire.new) self.old self.new
-            (Filled self.old.waiting self.new.waiting) (NotFilled self.old.waiting) result }
-        ensures faults { CountsFaults (W.faults wire.old) (W.faults wire.new) result }
-    {
-        let count = match wire.recv(piece) {
-            Ok(count) => count,
-            Err(stop) => return Err(fault_of_stop(stop)),
-        };
-        self.add(&piece[..count])?;
-        Ok(count > 0)
-    }
-
-    /// Receives one piece. False is the end.
+    /// Receives some bytes behind those that wait, into the room there. False is the end.
     pub fn fill<W: Wire>(&mut self, wire: &mut W) -> Result<bool, AnswerFault>
         requires open { IsTrue (W.is_open wire.old) }
         requires room { length self.old.waiting < 65536 }
@@ -159,9 +182,21 @@ impl Inbox {
             (Filled self.old.waiting self.new.waiting) (NotFilled self.old.waiting) result }
         ensures faults { CountsFaults (W.faults wire.old) (W.faults wire.new) result }
     {
-        let most = PIECE.min(MOST_BYTES - self.len());
-        let mut piece = [0; PIECE];
-        self.fill_by(wire, &mut piece[..most])
+        let start = match make_room(&mut self.buffer, self.at, self.end) {
+            Ok(start) => start,
+            Err(_) => return Err(AnswerFault::Memory),
+        };
+        let end = start + (self.end - self.at);
+        self.at = start;
+        self.end = end;
+        let count = match receive_behind(wire, self.buffer.as_mut_slice(), end) {
+            Ok(count) => count,
+            Err(stop) => return Err(fault_of_stop(stop)),
+        };
+        let known = note(&mut self.first, self.known, &self.buffer[end..end + count]);
+        self.known = known;
+        self.end = end + count;
+        Ok(count > 0)
     }
 
     /// Receives one byte behind those that wait, and drops it. False is the end.

@@ -2,7 +2,7 @@
 ghost use Rattle.std.specs.Prelude.{◌≡◌, [], ◌∷◌, ℕ, List, IsTrue, OnOk, IfErr};
 ghost use Rattle.skopeo_outside.specs.Outside.{HasCause};
 ghost use Rattle.skopeo_outside.specs.Wire.{Gains};
-ghost use Rattle.http_message.specs.Requests.{text_of};
+ghost use Rattle.http_message.specs.Requests.{text_of, counted, MaySend};
 ghost use Rattle.http_exchange.specs.Sending.{sending, sending_to, host_name, FailsSending};
 
 use http_message::{Request, write_head};
@@ -28,6 +28,7 @@ fn connect_and_send<W: Wire>(wire: &mut W, host: &str, port: u16, bytes: &[u8]) 
 
 /// Connects to the host of a request, and sends its head.
 pub fn send_head<W: Wire>(alloc: Global, wire: &mut W, request: &Request) -> Result<(), Stop>
+    requires may { MaySend request.now (counted request.now.length) }
     ensures open { OnOk result (IsTrue (W.is_open wire.new)) }
     ensures begun { OnOk result (Gains (sending_to request.now (text_of request.now []) ∷ []) (W.conversations wire.old) (W.conversations wire.new)) }
     ensures failed { IfErr result (λ stop. FailsSending (host_name request.now.host) request.now.port (text_of request.now []) stop

@@ -90,9 +90,10 @@ fn push_size(text: &mut Text, length: Option<u64>) -> Result<(), Memory>
     }
 }
 
-/// The text of a request up to its body: its lines in their order, and an empty line. The only error is
-/// want of memory.
+/// The text of a request that may be sent, up to its body: its lines in their order, and an empty line. The only
+/// error is want of memory.
 pub fn write_head(alloc: Global, request: &Request) -> Result<Text, Memory>
+    requires may { MaySend request.now (counted request.now.length) }
     ensures text { IfOk result (λ text. text ≡ text_of request.now []) }
 {
     let mut text = Text::new(alloc);

@@ -1,6 +1,6 @@
 // The heads of requests.
 use http::Method;
-use http_message::{Request, write_head};
+use http_message::{Request, may_send, write_head};
 use skopeo_outside::{Memory, Text};
 use std::alloc::Global;
 
@@ -33,9 +33,12 @@ fn request_of(alloc: Global, input: &str) -> Result<Request, Memory> {
     })
 }
 
-/// The text of a request's head.
+/// The text of a request's head, where it may be sent.
 pub fn request(alloc: Global, input: &str) -> Result<Text, Memory> {
     let request = request_of(alloc, input)?;
+    if !may_send(&request, request.length.unwrap_or(0)) {
+        return Text::copy_of(alloc, "may not be sent");
+    }
     let text = write_head(alloc, &request)?;
     Ok(Text::from_string(format!(in alloc; "{:?}", text.as_str())?))
 }

@@ -1,7 +1,9 @@
-use Rattle.std.proofs.Common.{◌∙◌, ap}
+use Rattle.std.proofs.Common.{rules, ◌∙◌, ap, length}
 use Rattle.std.proofs.lemmas.Result.{err_from_is_err_and}
+use Rattle.http_message.specs.Requests.{MaySend}
 use Rattle.http_exchange.specs.Reader.{Reader}
 use Rattle.http_exchange.proofs.Chaining.{follow_fault, follow_stops, follow_done, follow_on}
+use Rattle.http_exchange.proofs.PlainLaws.{may_follow}
 use Rattle.http_exchange.proofs.follow.+follow.Goals as goal
 
 pub returns-in-Err-clause-chained : goal.returns-in-Err-clause-chained
@@ -24,3 +26,10 @@ returns-in-Some-clause-chained g t c =
 pub returns-in-None-clause-chained : goal.returns-in-None-clause-chained
 returns-in-None-clause-chained g t c =
     follow_done c.args.step c.args.request.now c.args.body.now c.args.left _ _ c.ask.new.reader c.in-Ok.head (rw c.in-None.is at c.in_ok-next.ensures) c.in-Ok.ensures.asked
+
+pub follow-requires : goal.follow-requires
+follow-requires g t c κs within =
+    let n = rw c.in-Some.is at c.in_ok-next.ensures in
+    let may : MaySend c.in-Some.next (length c.args.body.now)
+    = may_follow c.args.request.now c.in-Some.next c.in-Ok.head (length c.args.body.now) c.requires.may n.2 in
+    search (rules, may)
