@@ -50,9 +50,9 @@ stored_goes s a b r stored = later_source a b stored.on (got_more s.base s.path 
 pub stored_untouched : (s : StoreAt) (a b : LaneTold) (r : Result (List (List ℕ)) Refusal) → AreStored s a b r → IsUntouched a b
 stored_untouched s a b r stored = untouched_source a b stored.on
 
-pub stored_spares : (s : StoreAt) (r : Reference) (a b : LaneTold) (x : Result (List (List ℕ)) Refusal) → AreStored s a b x → Spares (source.Registry r) a b
+pub spares_later : (r : Reference) (a b : LaneTold) → IsLater a b → Spares (source.Registry r) a b
 unfolding Spares
-stored_spares s r a b x stored = stored_goes s a b x stored
+spares_later r a b later = later
 
 -- by the answer of a call
 pub stored_by : (s : StoreAt) (base path digest : List ℕ) (a b : LaneTold) (answer : Result (List (List ℕ)) RegistryFault) (r : Result (List (List ℕ)) Refusal) → base ≡ s.base → path ≡ s.path → digest ≡ s.digest → OnSource a b

@@ -1,6 +1,7 @@
 // The signatures that are stored of an image at a registry.
 ghost use Rattle.std.specs.Prelude.{◌≡◌};
 ghost use Rattle.transports.specs.declared.source.Source.TheVariants.{Registry as AtRegistry};
+ghost use Rattle.skopeo_outside.specs.LaneTold.{IsLater};
 ghost use Rattle.skopeo_outside.specs.Steps.{Ends};
 ghost use Rattle.image_ref.specs.Reference.{Reference};
 ghost use Rattle.transports.specs.Courses.{lane_course};
@@ -66,6 +67,7 @@ fn ask_store<W: Wire, F: Files>(
     store: &Store,
 ) -> Result<Many<Many<u8>>, Refusal>
     ensures stored { AreStored store.now lane.old lane.new result }
+    ensures later { IsLater lane.old lane.new }
 {
     let answer = get_signatures(
         alloc,
@@ -78,7 +80,7 @@ fn ask_store<W: Wire, F: Files>(
 }
 
 /// The signatures of an image at a registry: those that stand in its store, where it has one.
-#[tactic(auto, using(crate::proofs::StoreLemmas::stored_ends, crate::proofs::StoreLemmas::stored_untouched, crate::proofs::StoreLemmas::stored_spares, crate::proofs::StoreLemmas::none_stored, crate::proofs::SameLemmas::untouched_same, crate::proofs::SameLemmas::spares_same))]
+#[tactic(auto, using(crate::proofs::StoreLemmas::stored_ends, crate::proofs::StoreLemmas::stored_untouched, crate::proofs::StoreLemmas::spares_later, crate::proofs::StoreLemmas::none_stored, crate::proofs::SameLemmas::untouched_same, crate::proofs::SameLemmas::spares_same))]
 pub(crate) fn stored_signatures<W: Wire, F: Files>(
     alloc: Global,
     lane: &mut Lane<W, F>,
